@@ -1,6 +1,6 @@
-//! Computes as many tags as it is asked for, and nothing else, for `bench/check` to compare with.
-//! Words: how many, the length of the value that each covers, and how many keys are prepared. The
-//! tags are under the last of these keys; where none is to be prepared they are by `HmacSha256`.
+//! Computes a given count of tags, and nothing else, for `bench/check` to compare with. Its words
+//! are this count, the length of the value that each tag covers, and the count of prepared keys.
+//! The tags are under the last of these keys. Without prepared keys `HmacSha256` computes them.
 #![tactic(auto)]
 
 use pay_hmac::{HmacSha256, PreparedHmac, Tagger};
@@ -11,7 +11,7 @@ const HEAD: [u8; 24] = [0; 24];
 
 const NO_KEY: [u8; 32] = [0; 32];
 
-/// So many keys and one at least. As with test keys, their last bytes alone tell them apart.
+/// Returns `count` keys, and at least one. As with test keys, only their last bytes differ.
 fn keys_of(alloc: Global, count: u64) -> Result<Vec<[u8; 32]>, AllocError> {
     let mut keys = vec![in alloc; NO_KEY]?;
     for place in 1..count {
@@ -24,16 +24,18 @@ fn keys_of(alloc: Global, count: u64) -> Result<Vec<[u8; 32]>, AllocError> {
     Ok(keys)
 }
 
-/// The exclusive or of the first bytes of `count` tags, each of another head: the same for the same
-/// words, so that no tag can be left out.
-fn xor_of_tags<T: Tagger>(tagger: &T, key: &[u8; 32], value: &[u8], count: u64) -> u8 {
+/// Returns the exclusive or of the first bytes of `count` tags, each of another head. It depends on
+/// all tags, so that no tag can be left out.
+fn xor_of_tags<T: Tagger>(tagger: &T, keys: &[[u8; 32]], value: &[u8], count: u64) -> u8 {
+    let place = keys.len().saturating_sub(1);
+    let key = keys.last().unwrap_or(&NO_KEY);
     let mut head = HEAD;
     let mut all = 0u8;
     for number in 0..count {
         let [_, _, _, _, _, _, high, low] = number.to_be_bytes();
         head[14] = high;
         head[15] = low;
-        let tag = tagger.tag(key, &head, value);
+        let tag = tagger.tag_at(place, key, &head, value);
         all ^= tag[0];
     }
     all
@@ -42,15 +44,14 @@ fn xor_of_tags<T: Tagger>(tagger: &T, key: &[u8; 32], value: &[u8], count: u64) 
 fn joined_by(alloc: Global, count: u64, length: u64, prepared: u64) -> Result<u8, AllocError> {
     let value = vec![in alloc; 255u8; length as usize]?;
     let keys = keys_of(alloc, prepared)?;
-    let key = keys.last().unwrap_or(&NO_KEY);
     if prepared == 0 {
-        return Ok(xor_of_tags(&HmacSha256, key, value.as_slice(), count));
+        return Ok(xor_of_tags(&HmacSha256, keys.as_slice(), value.as_slice(), count));
     }
     let tagger = PreparedHmac::new(alloc, keys.as_slice())?;
-    Ok(xor_of_tags(&tagger, key, value.as_slice(), count))
+    Ok(xor_of_tags(&tagger, keys.as_slice(), value.as_slice(), count))
 }
 
-/// The number that a word spells, 0 if it spells none, or another one where there is no word.
+/// Returns the number in `word`, or 0 if it has none. Without a word it returns `other`.
 fn number_or(word: Option<String>, other: u64) -> u64 {
     word.map_or(other, |word| word.as_str().parse().unwrap_or(0))
 }

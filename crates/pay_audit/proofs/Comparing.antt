@@ -12,8 +12,8 @@ use Rattle.pay_audit.specs.Export.{ExportFields, list_in, lists_of}
 use Rattle.pay_audit.specs.Laws.{AgreeWith, Agreeing}
 use Rattle.pay_audit.specs.Said.{Each, EachTwo}
 use Rattle.pay_audit.specs.Verdict.{first_from, fork_between, fork_from, fork_of, fork_place, if_differ}
-use Rattle.pay_audit.specs.declared.verdict.Verdict.{Verdict}
-use Rattle.pay_audit.specs.declared.verdict.Verdict.TheVariants.{Fork}
+use Rattle.pay_audit.specs.declared.auditing.Verdict.{Verdict}
+use Rattle.pay_audit.specs.declared.auditing.Verdict.TheVariants.{Fork}
 use Rattle.pay_audit.proofs.OneList.{prefixes_agree}
 use Rattle.pay_audit.proofs.Firsts.{nobody, unanswered}
 use Rattle.pay_audit.proofs.Forking.{no_fork}

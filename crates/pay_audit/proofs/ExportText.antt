@@ -6,7 +6,7 @@ use Rattle.std.specs.Io.KnownBytes.{Appends}
 use Rattle.std.proofs.KnownBytes.{Appends-trans}
 use Rattle.json.specs.Print.{escape_byte}
 use Rattle.serde_json.specs.Written.{compact_text}
-use Rattle.pay_io.specs.Device.{WroteBeginning, next_count}
+use Rattle.pay_frame.specs.Device.{WroteBeginning, next_count}
 use Rattle.pay_audit.specs.Export.{ExportFields}
 use Rattle.pay_audit.specs.Exporting.{export_data, lists_data, numbers_data}
 use Rattle.pay_audit.specs.Gathering.{AddsAt, OutputState}

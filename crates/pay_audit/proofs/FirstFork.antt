@@ -10,8 +10,8 @@ use Rattle.pay_audit.specs.Export.{ExportFields, list_in}
 use Rattle.pay_audit.specs.Laws.{AgreeWith, Agreeing, HasRightBalances, HasRightFront}
 use Rattle.pay_audit.specs.Said.{BeginAlike, Each, EachTwo, IsFirstDifference, IsSaid}
 use Rattle.pay_audit.specs.Verdict.{first_from, fork_between, fork_from, fork_of, fork_place, if_differ}
-use Rattle.pay_audit.specs.declared.verdict.Verdict.{Verdict}
-use Rattle.pay_audit.specs.declared.verdict.Verdict.TheVariants.{Fork}
+use Rattle.pay_audit.specs.declared.auditing.Verdict.{Verdict}
+use Rattle.pay_audit.specs.declared.auditing.Verdict.TheVariants.{Fork}
 use Rattle.pay_audit.proofs.Firsts.{FirstAt, first_is, no_answer, nobody, none_first, none_rest, unanswered}
 use Rattle.pay_audit.proofs.Forking.{agree_at, no_fork}
 

@@ -7,7 +7,7 @@ use Rattle.std.specs.Cmp.Lexicographic.{same_text}
 use Rattle.std.proofs.lemmas.Slice.Eq.{bytes_eq-Decides}
 use Rattle.pay_audit.specs.Export.{ExportFields, list_in}
 use Rattle.pay_audit.specs.Verdict.{first_from, fork_between, fork_of, fork_place, if_differ}
-use Rattle.pay_audit.specs.declared.verdict.Verdict.{Verdict}
+use Rattle.pay_audit.specs.declared.auditing.Verdict.{Verdict}
 use Rattle.pay_audit.specs.Laws.{AgreeWith, Agreeing}
 use Rattle.pay_audit.proofs.Judging.{both_none, first_same, rest_none}
 

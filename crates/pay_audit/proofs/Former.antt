@@ -12,8 +12,8 @@ use Rattle.pay_book.specs.Settled.{balances_of, settled_front}
 use Rattle.pay_audit.specs.Export.{ExportFields, lists_of}
 use Rattle.pay_audit.specs.Former.{former_logs_of, former_front_of, former_balances_of, former_wrong_front_at, former_wrong_balance_at, HasSingles, former_verdict_of}
 use Rattle.pay_audit.specs.Verdict.{book_of, first_from, fork_from, if_other, other_genesis, verdict_of, wrong_front_at, wrong_balance_at, wrong_front_of, wrong_balance_of}
-use Rattle.pay_audit.specs.declared.verdict.Verdict.{Verdict}
-use Rattle.pay_audit.specs.declared.verdict.Verdict.TheVariants.{Clean, WrongFront, WrongBalance}
+use Rattle.pay_audit.specs.declared.auditing.Verdict.{Verdict}
+use Rattle.pay_audit.specs.declared.auditing.Verdict.TheVariants.{Clean, WrongFront, WrongBalance}
 
 sums_same : (n : ℕ) (f g : ℕ → ℕ) → ((k : ℕ) → k < n → f k ≡ g k) → sum_below n f ≡ sum_below n g
 sums_same zero f g same = refl

@@ -4,7 +4,7 @@ use Rattle.std.specs.Io.KnownBytes.{Appends}
 use Rattle.std.proofs.KnownBytes.{Appends-trans}
 use Rattle.std.proofs.lemmas.List.{length-append, take-append-le}
 use Rattle.std.proofs.Math.Seq.{take-append-add}
-use Rattle.pay_io.specs.Device.{WroteBeginning, next_count}
+use Rattle.pay_frame.specs.Device.{WroteBeginning, next_count}
 use Rattle.pay_audit.specs.Gathering.{Adds, AddsAt, PassesOn, OutputState}
 
 -- what was held went out, and then the text

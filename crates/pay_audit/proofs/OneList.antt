@@ -1,6 +1,5 @@
 -- Lists that one list begins with, and the longest of an account's lists so far.
-use Rattle.std.proofs.Common.{◌≡◌, ⊎_elim, ℕ, zero, suc, ◌+◌, ◌≤◌, List, [], ◌∷◌, ◌++◌, length, drop, slice_get, true, false, Option, Some, None, below_more, refl, ap, sym, subst, ◌∙◌, arith}
-use Rattle.std.specs.Option.{is_some, option_or}
+use Rattle.std.proofs.Common.{◌≡◌, ⊎_elim, ℕ, zero, suc, ◌+◌, ◌≤◌, List, [], ◌∷◌, ◌++◌, length, slice_get, Some, below_more, refl, ap, sym, subst, ◌∙◌, arith}
 use Rattle.std.proofs.lemmas.Bool.{cases_lt}
 use Rattle.std.proofs.lemmas.Option.{none-some, same_Some, slice_get_cases, slice_get_within}
 use Rattle.pay_channel.specs.Prefix.{IsPrefix}
@@ -8,9 +7,6 @@ use Rattle.pay_audit.specs.OneList.{HaveOneListEach, OneListIsNoFork}
 use Rattle.pay_audit.specs.Export.{ExportFields, lists_of}
 use Rattle.pay_audit.specs.Laws.{AgreeWith, Agreeing}
 use Rattle.pay_audit.specs.Said.{EachBefore, EachTwo}
-use Rattle.pay_audit.specs.Verdict.{first_from, fork_between, fork_from}
-use Rattle.pay_audit.specs.declared.verdict.Verdict.{Verdict}
-use Rattle.pay_audit.proofs.Firsts.{from_here}
 use Rattle.pay_audit.proofs.FirstFork.{all_agree, none_agrees}
 
 -- ---- two lists
@@ -128,24 +124,3 @@ lists_by_agreeing exports same a =
 pub one_list_is_no_fork : OneListIsNoFork
 one_list_is_no_fork exports =
     (λ none. lists_by_agreeing exports (all_agree 0 exports none), λ have. none_agrees 0 exports (agree_by_lists exports have))
-
--- ---- the first fork of an export
-
-option_first : (o rest : Option Verdict) → true ≡ is_some o → option_or o rest ≡ o
-option_first None rest h = absurd cc
-option_first (Some v) rest h = refl
-
-option_rest : (o rest : Option Verdict) → false ≡ is_some o → option_or o rest ≡ rest
-option_rest None rest h = refl
-option_rest (Some v) rest h = absurd cc
-
-module _ (exports : List ExportFields) (n : ℕ) (e : ExportFields) (fork : Option Verdict) (at : slice_get exports n ≡ Some e)
-    (found : fork ≡ first_from (fork_between n e) (n + 1) (drop (n + 1) exports)) where
-  from_next : fork_from n (drop n exports) ≡ option_or fork (fork_from (n + 1) (drop (n + 1) exports))
-  from_next = ap (fork_from n) (from_here n exports e at) ∙ ap (λ o. option_or o (fork_from (n + 1) (drop (n + 1) exports))) (sym found)
-
-  pub fork_is_next : true ≡ is_some fork → fork_from n (drop n exports) ≡ fork
-  fork_is_next some = from_next ∙ option_first fork (fork_from (n + 1) (drop (n + 1) exports)) some
-
-  pub fork_is_later : false ≡ is_some fork → fork_from n (drop n exports) ≡ fork_from (n + 1) (drop (n + 1) exports)
-  fork_is_later none = from_next ∙ option_rest fork (fork_from (n + 1) (drop (n + 1) exports)) none

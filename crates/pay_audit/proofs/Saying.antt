@@ -13,8 +13,8 @@ use Rattle.pay_audit.specs.Export.{ExportFields, IsExport, lists_of}
 use Rattle.pay_audit.specs.Laws.{HasRightBalances, HasRightFront, logs_of}
 use Rattle.pay_audit.specs.Said.{BeginAlike, Each, EachTwo, IsFirstWrongBalanceOf, IsFirstWrongFrontOf, IsSaid}
 use Rattle.pay_audit.specs.Verdict.{book_of, first_from, if_other, other_genesis, other_genesis_at, same_genesis, wrong_balance_at, wrong_balance_of, wrong_front_at, wrong_front_of}
-use Rattle.pay_audit.specs.declared.verdict.Verdict.{Verdict}
-use Rattle.pay_audit.specs.declared.verdict.Verdict.TheVariants.{OtherGenesis, WrongBalance, WrongFront}
+use Rattle.pay_audit.specs.declared.auditing.Verdict.{Verdict}
+use Rattle.pay_audit.specs.declared.auditing.Verdict.TheVariants.{OtherGenesis, WrongBalance, WrongFront}
 use Rattle.pay_audit.proofs.Firsts.{first_is, nobody}
 use Rattle.pay_audit.proofs.Judging.{front_is, pos_is, right_balances, right_front}
 use Rattle.pay_audit.proofs.Forking.{unmapped}

@@ -7,9 +7,9 @@ use Rattle.pay_audit.specs.Compared.{fork_among}
 use Rattle.pay_audit.specs.Export.{ExportFields}
 use Rattle.pay_audit.specs.Verdict.{first_from, fork_from, other_genesis, other_genesis_at, verdict_of, wrong_balance_at, wrong_front_at}
 use Rattle.pay_audit.specs.declared.auditor.Auditor.{Auditor}
-use Rattle.pay_audit.specs.declared.verdict.Verdict.{Verdict}
-use Rattle.pay_audit.specs.declared.verdict.Verdict.TheVariants.{Clean, OtherGenesis}
-use Rattle.pay_audit.specs.declared.wrong.Wrong.{Wrong}
+use Rattle.pay_audit.specs.declared.auditing.Verdict.{Verdict}
+use Rattle.pay_audit.specs.declared.auditing.Verdict.TheVariants.{Clean, OtherGenesis}
+use Rattle.pay_audit.specs.declared.findings.Wrong.{Wrong}
 use Rattle.pay_audit.proofs.Firsts.{none_first}
 use Rattle.pay_audit.proofs.Comparing.{first_of_both, forks_are, or_none}
 use Rattle.pay_audit.proofs.Saying.{same_itself}

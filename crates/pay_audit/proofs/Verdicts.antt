@@ -6,8 +6,8 @@ use Rattle.pay_audit.specs.Export.{ExportFields, IsExport}
 use Rattle.pay_audit.specs.Laws.{logs_of}
 use Rattle.pay_audit.specs.Said.{CleanIsJudged, Each, IsClean, IsSaid, VerdictIsSaid}
 use Rattle.pay_audit.specs.Verdict.{first_from, fork_from, other_genesis, verdict_of, wrong_balance_at, wrong_front_at}
-use Rattle.pay_audit.specs.declared.verdict.Verdict.{Verdict}
-use Rattle.pay_audit.specs.declared.verdict.Verdict.TheVariants.{Clean, OtherGenesis, WrongFront, WrongBalance, Fork}
+use Rattle.pay_audit.specs.declared.auditing.Verdict.{Verdict}
+use Rattle.pay_audit.specs.declared.auditing.Verdict.TheVariants.{Clean, OtherGenesis, WrongFront, WrongBalance, Fork}
 use Rattle.pay_audit.proofs.FirstFork.{all_agree, fork_said}
 use Rattle.pay_audit.proofs.Saying.{all_alike, all_balances, all_fronts, balance_said, front_said, other_said}
 

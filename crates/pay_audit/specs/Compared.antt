@@ -1,6 +1,6 @@
--- What is known of exports whose lists were compared one after the other: the longest lists of the
--- first ones, among which there is no fork, how long the lists of each of these are, and where
--- those of each later one differ.
+-- What is known about exports with lists that were compared one after the other. This is the
+-- longest lists of the first exports, which have no fork, and the lengths of the lists of each of
+-- these. For each later export it is the places at which its lists differ.
 use Rattle.std.specs.Prelude.{◌≡◌, ℕ, ◌≤◌, nat_lt, List, [], ◌∷◌, ◌++◌, length, map, Option, Some}
 use Rattle.std.specs.Prelude.{None, option_and_then, option_map, if◌then◌else◌}
 use Rattle.std.specs.List.{zip}
@@ -9,15 +9,15 @@ use Rattle.pay_audit.specs.Export.{ExportFields, list_in, lists_of}
 use Rattle.pay_audit.specs.Laws.{Agreeing}
 use Rattle.pay_audit.specs.Said.{Each}
 use Rattle.pay_audit.specs.Verdict.{first_from, fork_place}
-use Rattle.pay_audit.specs.declared.verdict.Verdict.{Verdict}
-use Rattle.pay_audit.specs.declared.verdict.Verdict.TheVariants.{Fork}
+use Rattle.pay_audit.specs.declared.auditing.Verdict.{Verdict}
+use Rattle.pay_audit.specs.declared.auditing.Verdict.TheVariants.{Fork}
 
 -- the longer of two lists
 abbrev pub longer : List (List ℕ) → List (List ℕ) → List (List ℕ)
 longer one other = if nat_lt (length one) (length other) then other else one
 
--- Each export's list of this account is how this one begins, and what agrees with each of them
--- agrees with this one.
+-- Each export's list of this account is a prefix of this list, and what agrees with each of them
+-- agrees with this list.
 pub record IsLongest (exports : List ExportFields) (account : ℕ) (list : List (List ℕ))
     : Type 0 where
   pub begins : Each (λ e. IsPrefix (lists_of e account) list) exports
@@ -25,11 +25,11 @@ pub record IsLongest (exports : List ExportFields) (account : ℕ) (list : List 
       (other : List (List ℕ)) → Each (λ e. Agreeing (lists_of e account) other) exports
       → Agreeing list other
 
--- how long each account's list is
+-- the lengths of all accounts' lists
 abbrev pub lengths_of : List (List (List ℕ)) → List ℕ
 lengths_of lists = map (λ l. length l) lists
 
--- where each account's list first differs from the longest, if it does
+-- the place at which each account's list first differs from the longest, if it does
 abbrev pub differences_of : List (List (List ℕ)) → List (List (List ℕ)) → List (Option ℕ)
 differences_of longest lists = map (λ p. fork_place p.0 p.1) (zip longest lists)
 
@@ -50,16 +50,16 @@ pub record HasCompared (exports : List ExportFields) (longest : List (List (List
   pub are_differences : differences ≡ map (λ e. differences_of longest e.lists) others
   pub differs : FirstDiffers longest others
 
--- ---- the first fork, by these numbers alone
+-- ---- the first fork, from these numbers alone
 
--- this place, where a list of so many values has it
+-- this place, if a list of `count` values has it
 abbrev pub place_if_within : ℕ → Option ℕ → Option ℕ
 place_if_within count place = option_and_then (λ s. if nat_lt s count then Some s else None) place
 
 abbrev pub fork_if : ℕ → ℕ → ℕ → ℕ × Option ℕ → Option Verdict
 fork_if x y owner p = option_map (Fork x y owner) (place_if_within p.0 p.1)
 
--- export x, whose lists are so long, against export y
+-- export x, with lists of these lengths, against export y
 unfoldable pub fork_by : ℕ → List ℕ → ℕ → List (Option ℕ) → Option Verdict
 fork_by x lengths y differences = first_from (fork_if x y) 0 (zip lengths differences)
 

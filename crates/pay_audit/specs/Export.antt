@@ -1,5 +1,5 @@
--- What a member shows of its own without its keys, and what a file of JSON says that one does. The
--- definitions are of the value that bytes are read as; which bytes have one is RFC 8259's matter.
+-- What a member shows of its own without its keys, and what a file of JSON contains about it. The
+-- definitions are about the value that bytes are read as. RFC 8259 says which bytes have one.
 use Rattle.std.specs.Prelude.{◌≡◌, ℕ, ◌<◌, ◌≤◌, ◌==◌, ◌&&◌, nat_le, nat_lt, List, [], ◌∷◌, codes}
 use Rattle.std.specs.Prelude.{length, slice_index_or, All, Bool, Option, Some, None, ok_or}
 use Rattle.std.specs.Prelude.{option_and_then, option_map, Result, Ok, Err, if◌then◌else◌}
@@ -12,11 +12,10 @@ use Rattle.pay_frame.specs.declared.limits.TheConstants.{GREATEST_VALUE, SEQS}
 use Rattle.pay_link.specs.Json.{Data, list_at, number_at, numbers_at, value_in}
 use Rattle.pay_link.specs.Genesis.{GenesisFields, IsGenesis, genesis_fault}
 use Rattle.pay_link.specs.Files.{genesis_said, ◌>>=◌}
-use Rattle.pay_audit.specs.declared.export_fault.ExportFault.{ExportFault}
-use Rattle.pay_audit.specs.declared.export_fault.ExportFault.TheVariants.{BadJson, BadShape}
-use Rattle.pay_audit.specs.declared.export_fault.ExportFault.TheVariants.{BadGenesis}
+use Rattle.pay_audit.specs.declared.exported.ExportFault.{ExportFault}
+use Rattle.pay_audit.specs.declared.exported.ExportFault.TheVariants.{BadJson, BadShape, BadGenesis}
 
--- what the ledger began with, whose export it is, and each account's list of values, front and
+-- the genesis, the member that the export belongs to, and each account's list of values, front and
 -- balance
 pub record ExportFields : Type 0 where
   pub genesis : GenesisFields
@@ -55,15 +54,15 @@ decoded_bytes (Err fault) = None
 abbrev pub if_short : {A : Type 0} → ℕ → List A → Option (List A)
 if_short most xs = if nat_le (length xs) most then Some xs else None
 
--- the value that a text spells: two hexadecimal digits of either case a byte, as many as a frame's
--- value has
+-- the value that a text encodes: two hexadecimal digits of either case for each byte, as many as a
+-- frame's value has
 unfoldable pub value_of_text : List ℕ → Option (List ℕ)
 value_of_text text = option_and_then (if_short GREATEST_VALUE) (decoded_bytes (decode_of text))
 
 abbrev pub value_said : Data → Option (List ℕ)
 value_said d = option_and_then value_of_text (as_str d)
 
--- the values of a list, if all that is in it are texts that spell one
+-- the values of a list, if all its items are texts that encode one
 abbrev pub values_said : Items → Option (List (List ℕ))
 values_said no_items = Some []
 values_said (item d ds) =
@@ -98,8 +97,7 @@ parts_in d =
     (number_at (codes "member") d))
     (genesis_said d)
 
--- one of so many members, as the object itself says how many there are, and for each a list, a
--- front and a balance
+-- a member of the count of members in the object, and for each member a list, a front and a balance
 abbrev pub is_sized : ExportFields → Bool
 is_sized e =
     nat_lt e.member e.genesis.members && (length e.lists == e.genesis.members)
@@ -108,7 +106,7 @@ is_sized e =
 abbrev pub if_sized : ExportFields → Option ExportFields
 if_sized e = if is_sized e then Some e else None
 
--- what a file says, if its genesis is one
+-- what a file contains, if its genesis is one
 abbrev pub export_judgement : ExportFields → Result ExportFields ExportFault
 export_judgement e = option_map_or (λ _. Err BadGenesis) (genesis_fault e.genesis) (Ok e)
 

@@ -13,7 +13,7 @@ use Rattle.pay_member.specs.Book.{book_after}
 use Rattle.pay_member.specs.Member.{MemberFields}
 use Rattle.pay_audit.specs.Export.{ExportFields}
 
--- the lists of a member, as far as its history has come
+-- the lists of a member after its history
 abbrev pub lists_of_member : MemberFields → ℕ → List (List ℕ)
 lists_of_member m = list_of (group_in m.genesis m.keys.own) (events m.history)
 
@@ -45,7 +45,7 @@ list_data values = array (items_of (map value_data values))
 abbrev pub lists_data : List (List (List ℕ)) → Data
 lists_data lists = array (items_of (map list_data lists))
 
--- what an export says of the genesis
+-- what an export contains about the genesis
 abbrev pub genesis_members : GenesisFields → Members
 genesis_members g =
     member (codes "faults") (number_data g.faults)

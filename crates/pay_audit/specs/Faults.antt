@@ -1,11 +1,11 @@
--- The faults of this crate: the number and the name under which each cause is printed. First, why a
+-- The faults of this crate: the number and the name that each cause is printed with. First, why a
 -- file is no export.
 use Rattle.std.specs.Prelude.{ℕ, List, ◌++◌, codes, decimal}
-use Rattle.pay_audit.specs.declared.export_fault.ExportFault.{ExportFault}
-use Rattle.pay_audit.specs.declared.export_fault.ExportFault.TheVariants.{Memory, BadJson, BadShape}
-use Rattle.pay_audit.specs.declared.export_fault.ExportFault.TheVariants.{BadGenesis}
-use Rattle.pay_audit.specs.declared.replay_fault.ReplayFault.{ReplayFault}
-use Rattle.pay_audit.specs.declared.replay_fault.ReplayFault.TheVariants as replay
+use Rattle.pay_audit.specs.declared.exported.ExportFault.{ExportFault}
+use Rattle.pay_audit.specs.declared.exported.ExportFault.TheVariants.{Memory, BadJson, BadShape}
+use Rattle.pay_audit.specs.declared.exported.ExportFault.TheVariants.{BadGenesis}
+use Rattle.pay_audit.specs.declared.replaying.ReplayFault.{ReplayFault}
+use Rattle.pay_audit.specs.declared.replaying.ReplayFault.TheVariants as replay
 
 abbrev pub export_fault_number : ExportFault → ℕ
 export_fault_number Memory = 0

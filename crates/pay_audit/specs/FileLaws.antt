@@ -1,31 +1,30 @@
--- When a file is no export, as statements. Each is proved as a public law.
+-- Statements about when a file is no export. Each is proved as a public law.
 use Rattle.std.specs.Prelude.{◌≡◌, ◌↔◌, ℕ, ◌<◌, List, length, Some, None, Err}
 use Rattle.pay_link.specs.Json.{Data, value_in}
 use Rattle.pay_link.specs.Genesis.{IsGenesis}
-use Rattle.pay_audit.specs.declared.export_fault.ExportFault.TheVariants.{BadJson, BadShape}
-use Rattle.pay_audit.specs.declared.export_fault.ExportFault.TheVariants.{BadGenesis}
+use Rattle.pay_audit.specs.declared.exported.ExportFault.TheVariants.{BadJson, BadShape, BadGenesis}
 use Rattle.pay_audit.specs.Export.{ExportFields, export_in, parts_in}
 
--- its member is one of so many as the object says that there are, and each has a list, a front and
--- a balance
+-- its member is one of the members that the object counts, and each has a list, a front and a
+-- balance
 pub record HasSizes (e : ExportFields) : Type 0 where
   pub member : e.member < e.genesis.members
   pub lists : length e.lists ≡ e.genesis.members
   pub front : length e.front ≡ e.genesis.members
   pub balances : length e.balances ≡ e.genesis.members
 
--- it is no JSON
+-- the file is no JSON
 abbrev pub BadJsonCause : Type 0
 BadJsonCause = (bytes : List ℕ) → (export_in bytes ≡ Err BadJson) ↔ (value_in bytes ≡ None)
 
--- it is, and its value has not all parts of an export, or not in their sizes
+-- the file is JSON, and its value lacks parts of an export, or has parts of other sizes
 abbrev pub BadShapeCause : Type 0
 BadShapeCause =
     (bytes : List ℕ) → (export_in bytes ≡ Err BadShape)
     ↔ ((d : Data) × (value_in bytes ≡ Some d)
     × ((e : ExportFields) → parts_in d ≡ Some e → ¬ (HasSizes e)))
 
--- it has them, and its genesis is none
+-- the file has these parts, and its genesis is none
 abbrev pub BadGenesisCause : Type 0
 BadGenesisCause =
     (bytes : List ℕ) → (export_in bytes ≡ Err BadGenesis)

@@ -1,6 +1,6 @@
--- All that is wrong with exports, each named by its file: which ones are of another group; of the
--- others each front and each balance that isn't what the export's own lists allow, and each number
--- of an account under which they list several values, with those who list each.
+-- All that is wrong with exports, each named by its file. Exports of another group are named. Of
+-- the others, each front and each balance is named that isn't what the export's own lists allow.
+-- Each number of an account with several listed values is named, with the exports that list each.
 use Rattle.std.specs.Prelude.{ℕ, ◌==◌, ◌++◌, max, Bool, true, false, List, [], ◌∷◌, codes, count_by}
 use Rattle.std.specs.Prelude.{decimal, filter, length, slice_get, slice_index, take, Option, None}
 use Rattle.std.specs.Prelude.{if◌then◌else◌}
@@ -15,7 +15,7 @@ use Rattle.pay_audit.specs.Export.{lists_of}
 use Rattle.pay_audit.specs.Verdict.{book_of, same_genesis}
 use Rattle.pay_audit.specs.declared.findings.Named.{Named}
 
--- the end of a line
+-- a line feed
 abbrev pub end_of_line : List ℕ
 end_of_line = 10 ∷ []
 
@@ -23,13 +23,13 @@ end_of_line = 10 ∷ []
 abbrev pub name_words : Named → List ℕ
 name_words n = codes " " ++ n.name.now
 
--- ` in NAME` and the end of the line
+-- ` in NAME` and a line feed
 abbrev pub in_words : Named → List ℕ
 in_words n = codes " in" ++ name_words n ++ end_of_line
 
 -- ---- other groups
 
--- whether an export begins with this genesis
+-- whether an export has this genesis
 abbrev pub has_genesis : GenesisFields → Named → Bool
 has_genesis g n = same_genesis g n.export.now.genesis
 
@@ -46,12 +46,12 @@ said_words kind n account said right =
     ++ codes " right " ++ decimal right
     ++ in_words n
 
--- where it isn't the right one
+-- the words, if the number isn't the right one
 abbrev pub if_wrong : List ℕ → Named → ℕ → ℕ → ℕ → List ℕ
 if_wrong kind n account said right =
     if said == right then [] else said_words kind n account said right
 
--- an account's front and balance against those of the book of the export's own lists
+-- an account's front and balance against those of the ledger of the export's own lists
 abbrev pub account_finding_words : Named → ℕ → List ℕ
 account_finding_words n account =
     if_wrong (codes "2 front") n account (slice_index n.export.now.front account)
@@ -65,16 +65,16 @@ book_finding_words n =
 
 -- ---- forks
 
--- the value that an export lists of an account under this number, if it lists one
+-- the value that an export lists for an account under this number, if it lists one
 abbrev pub listed_value_at : ℕ → ℕ → Named → Option (List ℕ)
 listed_value_at owner seq n = slice_get (lists_of n.export.now owner) seq
 
--- whether it lists this one there
+-- whether an export lists this value there
 abbrev pub lists_value : ℕ → ℕ → List ℕ → Named → Bool
 lists_value owner seq value n =
     option_map_or (λ v. bytes_eq v value) (listed_value_at owner seq n) false
 
--- whether it lists another one there
+-- whether an export lists another value there
 abbrev pub lists_other : ℕ → ℕ → List ℕ → Named → Bool
 lists_other owner seq value n =
     option_map_or (λ v. if bytes_eq v value then false else true)
@@ -85,7 +85,7 @@ abbrev pub first_value : ℕ → ℕ → List Named → Option (List ℕ)
 first_value owner seq [] = None
 first_value owner seq (n ∷ ns) = option_or (listed_value_at owner seq n) (first_value owner seq ns)
 
--- whether any lists another one there than the first that lists one
+-- whether an export lists another value there than the first that lists one
 abbrev pub is_forked : List Named → ℕ → ℕ → Bool
 is_forked group owner seq =
     option_map_or (λ value. list_any (lists_other owner seq value) group)
@@ -107,7 +107,7 @@ value_words members group owner seq value =
     ++ codes " in" ++ flat_map name_words (filter (lists_value owner seq value) group)
     ++ end_of_line
 
--- the line of the value that an export lists there, unless one before it lists the same
+-- the line of the value that an export lists there, unless an earlier export lists it too
 abbrev pub if_first : ℕ → List Named → ℕ → ℕ → ℕ × Named → List ℕ
 if_first members group owner seq n =
     option_map_or
@@ -124,7 +124,7 @@ abbrev pub fork_words : ℕ → List Named → ℕ → ℕ → List ℕ
 fork_words members group owner seq =
     if is_forked group owner seq then values_words members group owner seq else []
 
--- how long the longest of their lists of an account is
+-- the length of the longest of their lists of an account
 unfoldable pub longest : ℕ → List Named → ℕ
 longest owner [] = 0
 longest owner (n ∷ ns) = max (length (lists_of n.export.now owner)) (longest owner ns)
@@ -140,7 +140,7 @@ group_words members group =
     flat_map book_finding_words group
     ++ flat_map (owner_words members group) (range_with_len 0 members)
 
--- those of another group than the first; then what is wrong with its group
+-- the exports of another group than the first; then what is wrong with its group
 unfoldable pub findings_by : GenesisFields → List Named → List ℕ
 findings_by g exports =
     flat_map (stranger_words g) exports ++ group_words g.members (filter (has_genesis g) exports)

@@ -1,4 +1,4 @@
--- The verdict of exports as it was when each value was one payment.
+-- The verdict of exports in the form that it had when each value was one payment.
 use Rattle.std.specs.Prelude.{◌≡◌, ℕ, All, List, length, slice_index, Option, option_map, unwrap_or}
 use Rattle.std.specs.Option.{option_or}
 use Rattle.pay_book.specs.Front.{largest_front}
@@ -7,14 +7,14 @@ use Rattle.pay_book.specs.Settled.{balances_of}
 use Rattle.pay_book.specs.declared.payment.Entry.{Entry}
 use Rattle.pay_audit.specs.Export.{ExportFields, lists_of}
 use Rattle.pay_audit.specs.Verdict.{first_from, fork_from, if_other, other_genesis, verdict_of}
-use Rattle.pay_audit.specs.declared.verdict.Verdict.{Verdict}
-use Rattle.pay_audit.specs.declared.verdict.Verdict.TheVariants.{Clean, WrongFront, WrongBalance}
+use Rattle.pay_audit.specs.declared.auditing.Verdict.{Verdict}
+use Rattle.pay_audit.specs.declared.auditing.Verdict.TheVariants.{Clean, WrongFront, WrongBalance}
 
 -- one entry for each value of an export's own lists
 abbrev pub former_logs_of : ExportFields → ℕ → List Entry
 former_logs_of e = former_entries_of (length e.genesis.opening) (lists_of e)
 
--- the front and the balances that they allow
+-- the front and the balances that these lists allow
 abbrev pub former_front_of : ExportFields → List ℕ
 former_front_of e = largest_front e.genesis.opening (former_logs_of e)
 

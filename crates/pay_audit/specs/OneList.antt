@@ -1,5 +1,5 @@
--- Lists of an account of which each is how one list begins. That exports have no fork exactly where
--- each account has such a list is proved as a public law.
+-- Lists of an account that are all prefixes of one list. It is proved as a public law that exports
+-- have no fork exactly if each account has such a list.
 use Rattle.std.specs.Prelude.{◌≡◌, ◌↔◌, ℕ, List, None}
 use Rattle.pay_channel.specs.Prefix.{IsPrefix}
 use Rattle.pay_audit.specs.Export.{ExportFields, lists_of}
@@ -14,8 +14,7 @@ pub record HaveOneList (exports : List ExportFields) (account : ℕ) : Type 0 wh
 abbrev pub HaveOneListEach : List ExportFields → Type 0
 HaveOneListEach exports = (account : ℕ) → HaveOneList exports account
 
--- no two exports fork where each account has one list that begins with all of theirs, and only
--- there
+-- no two exports fork exactly if each account has one list that begins with all of theirs
 abbrev pub OneListIsNoFork : Type 0
 OneListIsNoFork =
     (exports : List ExportFields) → (fork_from 0 exports ≡ None) ↔ HaveOneListEach exports

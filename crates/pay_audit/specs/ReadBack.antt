@@ -5,11 +5,11 @@ use Rattle.pay_member.specs.Legal.{IsValue}
 use Rattle.pay_audit.specs.Export.{ExportFields, IsExport, export_in, lists_of}
 use Rattle.pay_audit.specs.Exporting.{export_data}
 
--- all that the lists have is bytes that a frame has room for
+-- all values of the lists are bytes that fit a frame
 abbrev pub HasValues : ExportFields → Type 0
 HasValues e = (a s : ℕ) (v : List ℕ) → slice_get (lists_of e a) s ≡ Some v → IsValue v
 
--- whatever text has the value that is written for an export: that export is read from it
+-- an export is read from any text that has the value written for it
 abbrev pub ExportReadsBack : Type 0
 ExportReadsBack =
     (e : ExportFields) (text : List ℕ) → IsExport e → HasValues e

@@ -1,12 +1,13 @@
--- A history replayed: whether a member can have it, and else the first entry that it can't have.
+-- A replayed history: whether a member can have it, and otherwise the first entry that it can't
+-- have.
 use Rattle.std.specs.Prelude.{◌≡◌, ℕ, List, take, slice_get, Some, ⊤}
 use Rattle.pay_link.specs.Genesis.{GenesisFields}
 use Rattle.pay_link.specs.Keys.{KeyFields}
-use Rattle.pay_member.specs.declared.entry.HistoryEntry.{HistoryEntry}
+use Rattle.pay_member.specs.declared.event.HistoryEntry.{HistoryEntry}
 use Rattle.pay_member.specs.Events.{events}
 use Rattle.pay_member.specs.Legal.{IsOwed, Legal}
-use Rattle.pay_audit.specs.declared.replay_fault.ReplayFault.{ReplayFault}
-use Rattle.pay_audit.specs.declared.replay_fault.ReplayFault.TheVariants as replay
+use Rattle.pay_audit.specs.declared.replaying.ReplayFault.{ReplayFault}
+use Rattle.pay_audit.specs.declared.replaying.ReplayFault.TheVariants as replay
 
 -- the entries before this place are a member's, and the entry at it isn't one after them
 pub record IsFirstIllegal (g : GenesisFields) (k : KeyFields) (history : List HistoryEntry)
@@ -16,7 +17,7 @@ pub record IsFirstIllegal (g : GenesisFields) (k : KeyFields) (history : List Hi
   pub before : Legal g k (take place history)
   pub not_owed : IsOwed g k (events (take place history)) entry → ⊥
 
--- what a fault says of a history
+-- what a fault says about a history
 abbrev pub IsCause : GenesisFields → KeyFields → List HistoryEntry → ReplayFault → Type 0
 IsCause g k history replay.Memory = ⊤
 IsCause g k history (replay.Illegal place) = IsFirstIllegal g k history place

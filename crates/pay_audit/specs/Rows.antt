@@ -1,7 +1,7 @@
--- Values that are kept one after the other, with where each ends.
+-- Values that are stored one after the other, with the place at which each ends.
 use Rattle.std.specs.Prelude.{◌≡◌, ℕ, ◌≤◌, List, [], ◌∷◌, slice_range}
 
--- the values from this byte on, each of which begins where the one before it ends
+-- the values from this byte on: each begins at the end of the one before it
 abbrev pub rows_from : ℕ → List ℕ → List ℕ → List (List ℕ)
 rows_from start bytes [] = []
 rows_from start bytes (end ∷ ends) = slice_range bytes start end ∷ rows_from end bytes ends

@@ -1,16 +1,16 @@
--- What a verdict says of exports as a whole, in the words of the book and of lists. That the
--- verdict of any exports says no other than this is proved as a public law.
+-- What a verdict says about exports as a whole, in terms of the ledger and of lists. It is proved
+-- as a public law that the verdict of any exports says this.
 use Rattle.std.specs.Prelude.{◌≡◌, ◌≢◌, ◌↔◌, ℕ, ◌<◌, pos, List, slice_get, slice_index, Some}
 use Rattle.pay_book.specs.Balance.{balance_at}
 use Rattle.pay_book.specs.Front.{IsLargest}
 use Rattle.pay_audit.specs.Export.{ExportFields, IsExport, lists_of}
 use Rattle.pay_audit.specs.Laws.{AgreeWith, Agreeing, HasRightBalances, HasRightFront, logs_of}
 use Rattle.pay_audit.specs.Verdict.{verdict_of}
-use Rattle.pay_audit.specs.declared.verdict.Verdict.{Verdict}
-use Rattle.pay_audit.specs.declared.verdict.Verdict.TheVariants.{Clean, OtherGenesis, WrongFront}
-use Rattle.pay_audit.specs.declared.verdict.Verdict.TheVariants.{WrongBalance, Fork}
+use Rattle.pay_audit.specs.declared.auditing.Verdict.{Verdict}
+use Rattle.pay_audit.specs.declared.auditing.Verdict.TheVariants.{Clean, OtherGenesis, WrongFront}
+use Rattle.pay_audit.specs.declared.auditing.Verdict.TheVariants.{WrongBalance, Fork}
 
--- ---- of each export, of those before a place, of each two
+-- ---- statements about each export, about those before a place, about each two
 
 abbrev pub Each : (ExportFields → Type 0) → List ExportFields → Type 0
 Each Is exports = (x : ℕ) (e : ExportFields) → slice_get exports x ≡ Some e → Is e
@@ -35,9 +35,9 @@ pub record IsClean (exports : List ExportFields) : Type 0 where
   pub balances : Each HasRightBalances exports
   pub lists : EachTwo AgreeWith exports
 
--- ---- the least case of each kind, where there is none of an earlier kind
+-- ---- the least case of each kind, if there is none of an earlier kind
 
--- export x is the first that begins with another genesis than export 0
+-- export x is the first that has another genesis than export 0
 pub record IsFirstOther (exports : List ExportFields) (x : ℕ) : Type 0 where
   pub first : ExportFields
   pub export : ExportFields
@@ -46,7 +46,7 @@ pub record IsFirstOther (exports : List ExportFields) (x : ℕ) : Type 0 where
   pub other : first.genesis ≢ export.genesis
   pub before : EachBefore x (BeginAlike first) exports
 
--- how many entries an export says are settled of this account is how many the largest front has
+-- the export's front of this account is that of the largest front
 abbrev pub IsFrontRight : ExportFields → ℕ → Type 0
 IsFrontRight e account =
     (front : ℕ → ℕ) → IsLargest e.genesis.opening (logs_of e) front
@@ -64,7 +64,7 @@ pub record IsFirstWrongFront (exports : List ExportFields) (x account : ℕ) : T
   pub wrong : IsFirstWrongFrontOf export account
   pub before : EachBefore x HasRightFront exports
 
--- the balance that an export says this account has is the one at the export's own front
+-- the export's balance of this account is the one at the export's own front
 abbrev pub IsBalanceRight : ExportFields → ℕ → Type 0
 IsBalanceRight e account =
     pos (slice_index e.balances account)
@@ -124,12 +124,12 @@ IsSaid exports (WrongFront x account) = IsFirstWrongFront exports x account
 IsSaid exports (WrongBalance x account) = IsFirstWrongBalance exports x account
 IsSaid exports (Fork x y owner seq) = IsFirstFork exports x y owner seq
 
--- what the verdict says of exports is so
+-- the verdict of exports is true
 abbrev pub VerdictIsSaid : Type 0
 VerdictIsSaid =
     (exports : List ExportFields) → Each IsExport exports → IsSaid exports (verdict_of exports)
 
--- it is Clean where nothing is wrong, and only there
+-- the verdict is Clean exactly if nothing is wrong
 abbrev pub CleanIsJudged : Type 0
 CleanIsJudged =
     (exports : List ExportFields) → Each IsExport exports

@@ -1,5 +1,5 @@
--- What an auditor answers of several exports, each named by its place from 0. Whether a front and
--- balances are right is asked of the export's own lists; nothing here says how a book is settled.
+-- An auditor's answer to several exports, each named by its place from 0. Fronts and balances are
+-- judged by the export's own lists. These definitions don't say how a ledger is settled.
 use Rattle.std.specs.Prelude.{ℕ, ◌+◌, ◌==◌, ◌&&◌, Bool, List, [], ◌∷◌, slice_index, Option, Some}
 use Rattle.std.specs.Prelude.{None, option_map, unwrap_or, if◌then◌else◌, ◌++◌, codes, decimal}
 use Rattle.std.specs.Option.{option_or}
@@ -9,14 +9,11 @@ use Rattle.pay_link.specs.Genesis.{GenesisFields}
 use Rattle.pay_book.specs.Book.{Standing}
 use Rattle.pay_book.specs.Settled.{settled_book}
 use Rattle.pay_audit.specs.Export.{ExportFields, lists_of}
-use Rattle.pay_audit.specs.declared.verdict.Verdict.{Verdict}
-use Rattle.pay_audit.specs.declared.verdict.Verdict.TheVariants.{Clean, OtherGenesis, WrongFront}
-use Rattle.pay_audit.specs.declared.verdict.Verdict.TheVariants.{WrongBalance, Fork}
+use Rattle.pay_audit.specs.declared.auditing.Verdict.{Verdict}
+use Rattle.pay_audit.specs.declared.auditing.Verdict.TheVariants.{Clean, OtherGenesis, WrongFront}
+use Rattle.pay_audit.specs.declared.auditing.Verdict.TheVariants.{WrongBalance, Fork}
 
--- change: a verdict of an audit, as `Fork`: `specs/Said.antt`; each case of it:
---   `specs/Findings.antt`; that correct members' exports don't have it: `pay_laws`; words
---   in `tools/report`; model `tests/models/audits.py`
--- the first answer that there is, where each is asked with its place, counted from here
+-- the first answer that there is, if each item is tested with its place, counted from here
 abbrev pub first_from : {A B : Type 0} → (ℕ → A → Option B) → ℕ → List A → Option B
 first_from ask place [] = None
 first_from ask place (x ∷ xs) = option_or (ask place x) (first_from ask (place + 1) xs)
@@ -36,11 +33,11 @@ other_genesis (e ∷ es) = first_from (other_genesis_at e.genesis) 0 (e ∷ es)
 
 -- ---- a wrong front, a wrong balance
 
--- the book of an export's own lists: all is settled that they allow
+-- the ledger of an export's own lists: all is settled that they allow
 abbrev pub book_of : ExportFields → Standing
 book_of e = settled_book e.genesis.opening (lists_of e)
 
--- this account, where its number isn't the right one
+-- this account, if its number isn't the right one
 abbrev pub if_other : List ℕ → ℕ → ℕ → Option ℕ
 if_other right a number = if number == slice_index right a then None else Some a
 
@@ -63,11 +60,11 @@ wrong_book exports =
 
 -- ---- a fork
 
--- this place, where the values at it differ
+-- this place, if the values at it differ
 abbrev pub if_differ : ℕ → List ℕ × List ℕ → Option ℕ
 if_differ place values = if bytes_eq values.0 values.1 then None else Some place
 
--- the first place that two lists both have and where their values differ
+-- the first place at which two lists both have a value and differ
 unfoldable pub fork_place : List (List ℕ) → List (List ℕ) → Option ℕ
 fork_place one other = first_from if_differ 0 (zip one other)
 
@@ -92,7 +89,7 @@ verdict_of exports =
     unwrap_or (option_or (other_genesis exports)
     (option_or (wrong_book exports) (fork_from 0 exports))) Clean
 
--- ---- as it is printed
+-- ---- the printed form
 
 abbrev pub verdict_words : Verdict → List ℕ
 verdict_words Clean = codes "clean"

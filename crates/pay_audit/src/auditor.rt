@@ -1,20 +1,19 @@
-//! Exports audited one by one: each is let go as soon as it is taken.
+//! Exports audited one by one: each is dropped as soon as it is accepted.
 
 ghost use Rattle.std.specs.Prelude.{◌≡◌, ◌+◌, ◌<◌, ◌∷◌, ◌++◌, List, [], IfOk, unwrap_or};
 ghost use Rattle.pay_audit.specs.Auditor.{HasTakenExports, IsWrongWith, taken_by};
 ghost use Rattle.pay_audit.specs.Export.{ExportFields};
 ghost use Rattle.pay_audit.specs.Verdict.{verdict_of};
 
+use crate::auditing::Verdict;
 use crate::comparison::Comparison;
 use crate::exported::Export;
-use crate::judged_export::JudgedExport;
-use crate::verdict::Verdict;
-use crate::wrong::Wrong;
+use crate::findings::Wrong;
 use pay_link::Genesis;
 use std::alloc::{AllocError, Global};
 
-/// What is known of the exports taken so far: how many they are, the genesis of the first, what is
-/// wrong with one of them, and how their lists compare.
+/// What is known about the exports accepted up to now: their count, the genesis of the first, what
+/// is wrong with one of them, and how their lists compare.
 #[derive(Debug, Drop)]
 pub struct Auditor {
     taken: usize,
@@ -24,7 +23,7 @@ pub struct Auditor {
 }
 
 impl Auditor {
-    /// One that has taken no exports.
+    /// Creates an auditor without exports.
     pub fn new(alloc: Global) -> Auditor
         ensures taken { HasTakenExports [] result }
         ensures count { taken_by result ≡ 0 }
@@ -37,7 +36,7 @@ impl Auditor {
         }
     }
 
-    /// One that has taken these exports.
+    /// Creates an auditor that has accepted `exports`.
     // promise: audits
     pub fn of(alloc: Global, exports: &[Export]) -> Result<Auditor, AllocError>
         ensures { IfOk result (HasTakenExports exports.now) }
@@ -49,7 +48,7 @@ impl Auditor {
         Ok(auditor)
     }
 
-    /// Takes one more export, and lets it go.
+    /// Accepts one more `export`, and drops it.
     // promise: audits
     pub fn take(self, alloc: Global, export: Export) -> Result<Auditor, AllocError>
         requires { taken_by self < usize.MAX }
@@ -58,18 +57,6 @@ impl Auditor {
         ensures count { IfOk result (λ auditor. taken_by auditor ≡ taken_by self + 1) }
     {
         self.add(alloc, &export)
-    }
-
-    /// Takes one more export that was settled before, and lets it go.
-    // promise: audits
-    pub fn take_judged(self, alloc: Global, judged: JudgedExport) -> Result<Auditor, AllocError>
-        requires { taken_by self < usize.MAX }
-        ensures taken { IfOk result (λ auditor. (exports : List ExportFields)
-            → HasTakenExports exports self → HasTakenExports (exports ++ judged ∷ []) auditor) }
-        ensures count { IfOk result (λ auditor. taken_by auditor ≡ taken_by self + 1) }
-    {
-        let wrong = self.wrong.with_judged(&self.genesis, self.taken, &judged);
-        self.with_lists(alloc, wrong, &judged.export)
     }
 
     /// Judges and settles one more export, and adds it.
@@ -83,8 +70,8 @@ impl Auditor {
         self.with_lists(alloc, wrong, export)
     }
 
-    /// Compares the lists of one more export with the longest so far, and copies of them what is
-    /// longer. `wrong` is what is wrong once it is added.
+    /// Compares the lists of one more export with the longest up to now, and copies what is longer.
+    /// `wrong` is what is wrong after it is added.
     fn with_lists(self, alloc: Global, wrong: Wrong, export: &Export) -> Result<Auditor, AllocError>
         requires count { taken_by self < usize.MAX }
         requires wrong { IsWrongWith self export.now wrong }
@@ -110,7 +97,8 @@ impl Auditor {
         })
     }
 
-    /// What is wrong with the exports taken, if anything is. None of them is needed any more.
+    /// Returns what is wrong with the accepted exports, if anything is. None of them is needed any
+    /// more.
     #[tactic(auto, unfolding(crate::specs::Verdict::verdict_of))]
     // promise: audits
     pub fn verdict(&self) -> Verdict
@@ -130,7 +118,7 @@ impl Auditor {
     }
 }
 
-// The genesis of the first export, which is this one where none was taken before.
+// Returns the genesis of the first export, which is `genesis` if no export was accepted before.
 fn first_or(alloc: Global, first: Option<Genesis>, genesis: &Genesis) -> Result<Genesis, AllocError>
     ensures { IfOk result (λ now. now ≡ unwrap_or first genesis.now) }
 {

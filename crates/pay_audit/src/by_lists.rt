@@ -1,14 +1,13 @@
-//! The export that lists alone give.
+//! The export that follows from lists alone.
 
 ghost use Rattle.std.specs.Prelude.{◌≡◌, ◌<◌, ◌≤◌, ℕ, IfOk, length, map, replicate};
 ghost use Rattle.std.specs.List.{range_with_len};
-ghost use Rattle.pay_frame.specs.declared.limits.TheConstants.{SEQS};
 ghost use Rattle.pay_audit.specs.ByLists.{HasOwnBook};
 ghost use Rattle.pay_audit.specs.Export.{AreShort, IsExport};
+ghost use Rattle.pay_frame.specs.declared.limits.TheConstants.{SEQS};
 
-use crate::exported::Export;
-use crate::owner_list::OwnerList;
-use crate::settling::settle_export;
+use crate::auditing::settle_export;
+use crate::exported::{Export, OwnerList};
 use pay_book::Settle;
 use pay_book::laws::settled_book_exists;
 use pay_channel::Source;
@@ -16,7 +15,7 @@ use pay_link::Genesis;
 use pay_pending::WaitingBook;
 use std::alloc::{AllocError, Global};
 
-/// What a member shows that has these lists: all is settled that they allow.
+/// Returns what `member` shows if it has the lists of `source`: all is settled that they allow.
 // promise: group's book
 pub fn export_of_lists<S: Source>(
     alloc: Global,
@@ -44,7 +43,7 @@ pub fn export_of_lists<S: Source>(
     with_own_book(alloc, unsettled)
 }
 
-/// The same lists, with the front and the balances of their book.
+/// Returns an export with the lists of `export`, and the front and the balances of their ledger.
 fn with_own_book(alloc: Global, export: Export) -> Result<Export, AllocError>
     ensures genesis { IfOk result (λ e. e.genesis ≡ export.genesis) }
     ensures member { IfOk result (λ e. e.member ≡ export.member) }
@@ -72,7 +71,7 @@ fn with_own_book(alloc: Global, export: Export) -> Result<Export, AllocError>
     })
 }
 
-/// The lists of the first `accounts` accounts.
+/// Returns the lists of the first `accounts` accounts.
 fn lists_from<S: Source>(
     alloc: Global,
     source: &S,
@@ -90,7 +89,7 @@ fn lists_from<S: Source>(
     Ok(lists)
 }
 
-/// So many zeros.
+/// Returns `count` zeros.
 fn zeros(alloc: Global, count: u16) -> Result<Vec<u64>, AllocError>
     ensures { IfOk result (λ zeros. zeros.items ≡ replicate count 0) }
 {
@@ -101,7 +100,7 @@ fn zeros(alloc: Global, count: u16) -> Result<Vec<u64>, AllocError>
     Ok(zeros)
 }
 
-/// How many entries of each account are settled in a book.
+/// Returns how many entries of each account are settled in `book`.
 fn front_in<B: Settle>(alloc: Global, book: &B, accounts: u16) -> Result<Vec<u64>, AllocError>
     requires opening { length (B.shows book.now).opening ≡ accounts }
     requires front { length (B.shows book.now).front ≡ accounts }
@@ -114,7 +113,7 @@ fn front_in<B: Settle>(alloc: Global, book: &B, accounts: u16) -> Result<Vec<u64
     Ok(front)
 }
 
-/// The balances of a book.
+/// Returns the balances of `book`.
 fn balances_in<B: Settle>(alloc: Global, book: &B, accounts: u16) -> Result<Vec<u64>, AllocError>
     requires opening { length (B.shows book.now).opening ≡ accounts }
     requires balances { length (B.shows book.now).balances ≡ accounts }

@@ -1,22 +1,21 @@
-//! Exports' lists, each compared once: with the longest of its account among the exports before it.
+//! Exports' lists, each compared once, with the longest list of its account among the exports
+//! before it.
 
 ghost use Rattle.std.specs.Prelude.{◌≡◌, ◌+◌, ◌^◌, ◌<◌, ◌≤◌, ◌∷◌, ◌++◌, ℕ, List, [], length, IfOk};
-ghost use Rattle.pay_frame.specs.declared.limits.TheConstants.{MOST_MEMBERS};
 ghost use Rattle.pay_audit.specs.Auditor.{HasComparedBy};
 ghost use Rattle.pay_audit.specs.Compared.{fork_among, fork_by, fork_with, lengths_of, longer};
 ghost use Rattle.pay_audit.specs.Compared.{place_if_within};
 ghost use Rattle.pay_audit.specs.Export.{ExportFields, list_in};
 ghost use Rattle.pay_audit.specs.Verdict.{fork_from};
+ghost use Rattle.pay_frame.specs.declared.limits.TheConstants.{MOST_MEMBERS};
 
-use crate::differences::Differences;
-use crate::lengths::Lengths;
-use crate::owner_list::OwnerList;
-use crate::verdict::Verdict;
+use crate::auditing::{Differences, Lengths, Verdict};
+use crate::exported::OwnerList;
 use std::alloc::{AllocError, Global};
 
-/// What is kept of exports' lists. As long as they agree that is the longest list of each account,
-/// and how long each export's are; of the first that differs and of those after it, where they
-/// differ from the longest.
+/// What is kept of exports' lists. As long as they agree, it is the longest list of each account,
+/// and the lengths of each export's lists. For the first export that differs and those after it, it
+/// is the places at which they differ from the longest.
 #[derive(Debug, Drop)]
 pub(crate) struct Comparison {
     longest: Vec<OwnerList>,
@@ -75,7 +74,7 @@ impl Comparison {
         Ok(self)
     }
 
-    /// The first fork between the exports compared.
+    /// Returns the first fork between the exports compared.
     pub(crate) fn fork(&self) -> Option<Verdict>
         ensures { (exports : List ExportFields)
             → HasComparedBy exports self.now → result ≡ fork_from 0 exports }
@@ -111,8 +110,8 @@ fn keep_longer(alloc: Global, kept: &mut [OwnerList], lists: &[OwnerList]) -> Re
     Ok(())
 }
 
-// The first fork between an export whose lists are so long and one that differs: each with each, in
-// the verdict's order.
+// Returns the first fork between an export with lists of these `lengths` and one that differs: each
+// is compared with each, in the verdict's order.
 fn fork_among(lengths: &[Lengths], differences: &[Differences]) -> Option<Verdict>
     ensures { result ≡ fork_among lengths.now differences.now }
 {
@@ -125,7 +124,8 @@ fn fork_among(lengths: &[Lengths], differences: &[Differences]) -> Option<Verdic
     None
 }
 
-// The first fork of export `one` with those that differ, of which the first is at `first`.
+// Returns the first fork of export `one` with those that differ. The first of these has the place
+// `first`.
 fn fork_with(
     first: usize,
     differences: &[Differences],
@@ -144,8 +144,8 @@ fn fork_with(
     None
 }
 
-// The first fork of export `one`, whose lists are so long, with one whose lists first differ at
-// these places.
+// Returns the first fork of export `one`, with lists of these `lengths`, and export `other`, with
+// lists that first differ at the places in `differences`.
 #[tactic(auto, unfolding(crate::specs::Compared::fork_by))]
 fn fork_by(
     one: usize,
@@ -158,7 +158,7 @@ fn fork_by(
 {
     for (owner, length) in lengths.iter().enumerate() {
         let difference = differences.get(owner)?;
-        if let Some(seq) = within(*length, *difference) {
+        if let Some(seq) = place_within(*length, *difference) {
             return Some(Verdict::Fork {
                 one,
                 other,
@@ -170,8 +170,8 @@ fn fork_by(
     None
 }
 
-// The place, if it is below `count`.
-fn within(count: u32, place: Option<u32>) -> Option<u32>
+// Returns `place`, if it is below `count`.
+fn place_within(count: u32, place: Option<u32>) -> Option<u32>
     ensures { result ≡ place_if_within count place }
 {
     place.filter(|place| *place < count)

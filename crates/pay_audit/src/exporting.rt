@@ -1,10 +1,9 @@
 //! A member's own export.
 
-ghost use Rattle.std.specs.Prelude.{◌≡◌, [], IfOk, Ok, OnOk};
-ghost use Rattle.std.specs.String.{string_bytes};
+ghost use Rattle.std.specs.Prelude.{◌≡◌, ℕ, List, [], IfOk, Ok, OnOk, Some};
 ghost use Rattle.serde_json.specs.Data.{object};
 ghost use Rattle.serde_json.specs.View.{members_view, view};
-ghost use Rattle.serde_json.specs.Written.{compact_text};
+ghost use Rattle.pay_link.specs.Json.{value_in};
 ghost use Rattle.pay_audit.specs.Export.{export_in};
 ghost use Rattle.pay_audit.specs.Exporting.{export_data, export_of, genesis_members, list_data};
 ghost use Rattle.pay_audit.specs.Exporting.{lists_data, numbers_data, value_data};
@@ -21,46 +20,36 @@ use pay_member::laws::{book_of_events, legal_histories};
 use serde_json::{Map, Value, put};
 use std::alloc::{AllocError, Global};
 
-/// What a member shows of its own without its keys: what the ledger began with, each account's list
-/// of values in hexadecimal, how many entries of it are settled, and all balances.
-// promise: exports
+/// Returns what `member` shows of its own without its keys. This is the genesis, each account's
+/// list of values in hexadecimal, how many of its entries are settled, and all balances.
+///
+/// `read_export` reads each text that has this value as that export.
+// promise: exports (value, reads_back)
 pub fn export<I: Instance + Drop, B: Settle + Drop>(
     alloc: Global,
     member: &Member<I, B>,
 ) -> Result<Value, AllocError>
-    ensures { IfOk result (λ value. view value ≡ export_data (export_of member.now)) }
+    ensures value { IfOk result (λ value. view value ≡ export_data (export_of member.now)) }
+    ensures reads_back { IfOk result (λ _. (text : List ℕ)
+        → value_in text ≡ Some (export_data (export_of member.now))
+        → export_in text ≡ Ok (export_of member.now)) }
 {
+    // for the proof, laws: the calls do nothing
+    book_of_events();
+    lists_are_delivered();
+    legal_histories();
+    export_reads_back();
+    // for what their clauses say about a member: the calls do nothing
+    member.genesis();
+    member.keys().own();
+    member.history();
     let mut parts = Map::new(alloc);
     put_genesis(alloc, &mut parts, member.genesis())?;
     put_book(alloc, &mut parts, member)?;
     Ok(Value::Object(parts))
 }
 
-/// The text of a member's own export, without spaces. `read_export` reads it as that export.
-// promise: exports (text, reads_back)
-pub fn export_text<I: Instance + Drop, B: Settle + Drop>(
-    alloc: Global,
-    member: &Member<I, B>,
-) -> Result<String, AllocError>
-    ensures text { IfOk result
-        (λ text. string_bytes text ≡ compact_text (export_data (export_of member.now))) }
-    ensures reads_back { IfOk result (λ text.
-        export_in (string_bytes text) ≡ Ok (export_of member.now)) }
-{
-    book_of_events();
-    lists_are_delivered();
-    legal_histories();
-    export_reads_back();
-    // for what their clauses say of a member: the calls do nothing
-    member.genesis();
-    member.keys().own();
-    member.history();
-    let value = export(alloc, member)?;
-    let text = value.to_string(alloc)?;
-    Ok(text)
-}
-
-/// Puts what the ledger began with into an object that has nothing yet.
+/// Puts `genesis` into an object that has nothing yet.
 pub(crate) fn put_genesis(
     alloc: Global,
     parts: &mut Map<String, Value>,
@@ -74,8 +63,7 @@ pub(crate) fn put_genesis(
     put(parts, alloc, "opening", opening_of(alloc, genesis)?)
 }
 
-/// Puts whose export it is, and what its book says, into an object that has what the ledger began
-/// with.
+/// Puts the member's number, and the contents of its ledger, into an object that has the genesis.
 #[tactic(auto, unfolding(crate::specs::Exporting::export_data))]
 fn put_book<I: Instance + Drop, B: Settle + Drop>(
     alloc: Global,
@@ -102,7 +90,7 @@ fn opening_of(alloc: Global, genesis: &Genesis) -> Result<Value, AllocError>
     Ok(Value::Array(numbers))
 }
 
-/// How many entries are settled of each account.
+/// Returns how many entries are settled of each account.
 fn front_of<I: Instance + Drop, B: Settle + Drop>(
     alloc: Global,
     member: &Member<I, B>,

@@ -5,16 +5,14 @@ ghost use Rattle.std.specs.List.{flat_map, list_any, range_with_len};
 ghost use Rattle.std.specs.Option.{option_copied};
 ghost use Rattle.pay_audit.specs.Findings.{first_value, fork_words, if_first, is_forked};
 ghost use Rattle.pay_audit.specs.Findings.{lists_other, lists_value, longest, name_words};
-ghost use Rattle.pay_audit.specs.Findings.{owner_words, listed_value_at, value_words};
-ghost use Rattle.pay_audit.specs.Findings.{values_words};
+ghost use Rattle.pay_audit.specs.Findings.{owner_words, listed_value_at, value_words, values_words};
 
-use crate::findings::Named;
-use crate::lines::{push_entries, push_name};
+use crate::findings::{Named, push_entries, push_name};
 use pay_channel::Source;
 use pay_text::{push_number, push_word};
 use std::alloc::AllocError;
 
-/// The forks of each account.
+/// Appends the forks of each account to `out`.
 pub(crate) fn push_forks(
     out: &mut Vec<u8>,
     members: u16,
@@ -29,7 +27,7 @@ pub(crate) fn push_forks(
     Ok(())
 }
 
-// The forks of one account, number by number.
+// Appends the forks of `owner`, number by number.
 #[tactic(auto, unfolding(crate::specs::Findings::owner_words))]
 fn push_owner(
     out: &mut Vec<u8>,
@@ -45,7 +43,7 @@ fn push_owner(
     Ok(())
 }
 
-// How long the longest list of an account is.
+// Returns the length of the longest list of `owner`.
 #[tactic(auto, unfolding(crate::specs::Findings::longest))]
 fn longest(group: &[Named<'_>], owner: u16) -> u32
     ensures { result ≡ longest owner group.now }
@@ -57,7 +55,7 @@ fn longest(group: &[Named<'_>], owner: u16) -> u32
     most
 }
 
-// The values under one number, if they are several.
+// Appends the values under the number `seq`, if there are several.
 fn push_fork(
     out: &mut Vec<u8>,
     members: u16,
@@ -75,7 +73,7 @@ fn push_fork(
     }
 }
 
-// Whether any export lists another value than the first that lists one.
+// Returns whether an export lists another value than the first that lists one.
 fn is_forked(group: &[Named<'_>], owner: u16, seq: u32) -> bool
     ensures { result ≡ is_forked group.now owner seq }
 {
@@ -85,7 +83,7 @@ fn is_forked(group: &[Named<'_>], owner: u16, seq: u32) -> bool
     }
 }
 
-// Whether any export lists another value than this.
+// Returns whether an export lists another value than `value`.
 fn has_other(group: &[Named<'_>], owner: u16, seq: u32, value: &[u8]) -> bool
     ensures { result ≡ list_any (lists_other owner seq value.now) group.now }
 {
@@ -94,7 +92,7 @@ fn has_other(group: &[Named<'_>], owner: u16, seq: u32, value: &[u8]) -> bool
         .any(|named| lists_other(*named, owner, seq, value))
 }
 
-// The value of the first export that lists one.
+// Returns the value of the first export that lists one.
 fn first_value<'a>(group: &[Named<'a>], owner: u16, seq: u32) -> Option<&'a [u8]>
     ensures { option_copied result ≡ first_value owner seq group.now }
 {
@@ -107,7 +105,7 @@ fn first_value<'a>(group: &[Named<'a>], owner: u16, seq: u32) -> Option<&'a [u8]
     None
 }
 
-// The value that an export lists under a number, if it lists one.
+// Returns the value that an export lists under a number, if it lists one.
 fn value_at<'a>(named: Named<'a>, owner: u16, seq: u32) -> Option<&'a [u8]>
     ensures { option_copied result ≡ listed_value_at owner seq named.entry }
 {
@@ -137,7 +135,7 @@ fn lists_value(named: Named<'_>, owner: u16, seq: u32, value: &[u8]) -> bool
     }
 }
 
-// Each value, by the first export that lists it.
+// Appends each value, according to the first export that lists it.
 #[tactic(auto, unfolding(crate::specs::Findings::values_words))]
 fn push_values(
     out: &mut Vec<u8>,
@@ -155,7 +153,7 @@ fn push_values(
     Ok(())
 }
 
-// The value of the export at a place, unless one before it lists the same.
+// Appends the value of the export at a place, unless an earlier export lists it too.
 fn push_if_first(
     out: &mut Vec<u8>,
     members: u16,
@@ -178,7 +176,7 @@ fn push_if_first(
     push_value(out, members, group, owner, seq, value)
 }
 
-// Whether any export lists a value.
+// Returns whether an export lists `value`.
 fn is_listed(group: &[Named<'_>], owner: u16, seq: u32, value: &[u8]) -> bool
     ensures { result ≡ list_any (lists_value owner seq value.now) group.now }
 {
@@ -187,7 +185,7 @@ fn is_listed(group: &[Named<'_>], owner: u16, seq: u32, value: &[u8]) -> bool
         .any(|named| lists_value(*named, owner, seq, value))
 }
 
-// A value's entries, how many exports list it, and which.
+// Appends a value's entries, how many exports list it, and which.
 #[tactic(auto, unfolding(crate::specs::Findings::value_words))]
 fn push_value(
     out: &mut Vec<u8>,
@@ -212,7 +210,7 @@ fn push_value(
     push_word(out, "\n")
 }
 
-// How many exports list a value.
+// Returns how many exports list `value`.
 fn count(group: &[Named<'_>], owner: u16, seq: u32, value: &[u8]) -> usize
     ensures { result ≡ count_by (lists_value owner seq value.now) group.now }
 {
@@ -222,7 +220,7 @@ fn count(group: &[Named<'_>], owner: u16, seq: u32, value: &[u8]) -> usize
         .count()
 }
 
-// The names of those.
+// Appends the names of the exports that list `value`.
 fn push_names(
     out: &mut Vec<u8>,
     group: &[Named<'_>],

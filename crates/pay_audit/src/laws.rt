@@ -1,5 +1,5 @@
-//! Laws of the definitions: what a verdict's parts say of an export. Each function's contract is
-//! the law; its body only names the laws below that it stands on.
+//! Laws of the definitions: what a verdict's parts say about an export. Each function's contract is
+//! the law; its body only names the laws below that the proof needs.
 
 ghost use Rattle.pay_audit.specs.Auditor.{VerdictOfTakenIsOne};
 ghost use Rattle.pay_audit.specs.OneList.{OneListIsNoFork};
@@ -12,9 +12,9 @@ ghost use Rattle.pay_audit.specs.Said.{CleanIsJudged, VerdictIsSaid};
 use pay_book::laws::{largest_is_computed, largest_is_one, settled_book_exists, single_entries};
 use pay_link::laws::genesis_limits;
 
-/// A file isn't JSON exactly where it has no value, of a wrong shape exactly where its value lacks
-/// a part of an export or has one of another size, and without a genesis exactly where the genesis
-/// that it says is none.
+/// States the faults of an export file. It isn't JSON exactly if it has no value. It has a wrong
+/// shape exactly if its value lacks a part of an export or has a part of another size. It has no
+/// genesis exactly if the genesis that it contains is none.
 // promise: exports
 pub fn export_file_faults()
     ensures json { BadJsonCause }
@@ -24,8 +24,8 @@ pub fn export_file_faults()
     genesis_limits();
 }
 
-/// No account's front is named exactly where the export's front is the largest that steps reach
-/// over its own lists.
+/// States that no account's front is named exactly if the export's front is the largest that steps
+/// reach over its own lists.
 // promise: audits
 pub fn front_is_judged()
     ensures { FrontIsJudged }
@@ -34,8 +34,8 @@ pub fn front_is_judged()
     largest_is_one();
 }
 
-/// Where the front is right, no account's balance is named exactly where the balances are those at
-/// that front.
+/// States that after a right front no account's balance is named exactly if the balances are those
+/// at that front.
 // promise: audits
 pub fn balances_are_judged()
     ensures { BalancesAreJudged }
@@ -44,21 +44,22 @@ pub fn balances_are_judged()
     settled_book_exists();
 }
 
-/// Two exports have no fork exactly where their lists of each account agree at every place that
-/// both have.
+/// States that two exports have no fork exactly if their lists of each account agree at every place
+/// that both have.
 // promise: audits
 pub fn fork_is_judged()
     ensures { ForkIsJudged }
 {}
 
-/// No two exports fork exactly where each account has one list that begins with every export's.
+/// States that no two exports fork exactly if each account has one list that begins with every
+/// export's.
 // promise: audits
 pub fn one_list_is_no_fork()
     ensures { OneListIsNoFork }
 {}
 
-/// What the verdict of exports says is so: nothing is wrong, or the case that it names is the first
-/// of the first kind that there is. It is Clean exactly where nothing is wrong.
+/// States that the verdict of exports is true: nothing is wrong, or the case that it names is the
+/// first of the first kind that occurs. It is Clean exactly if nothing is wrong.
 // promise: audits
 pub fn verdict_is_judged()
     ensures said { VerdictIsSaid }
@@ -69,7 +70,7 @@ pub fn verdict_is_judged()
     settled_book_exists();
 }
 
-/// Where no listed value is of several payments, exports have the verdict that they had when each
+/// States that exports without values of several payments have the verdict that they had when each
 /// value was one payment.
 // promise: audits
 pub fn verdict_of_single_payments()
@@ -78,15 +79,15 @@ pub fn verdict_of_single_payments()
     single_entries();
 }
 
-/// All exports that an auditor can have taken have one verdict. That there are some is what making
-/// one says.
+/// States that all exports that an auditor can have accepted have one verdict. The creation of an
+/// auditor shows that there are such exports.
 // promise: audits
 pub fn verdict_of_taken_is_one()
     ensures { VerdictOfTakenIsOne }
 {}
 
-/// An export whose values a frame has room for is read back from each text that has the value which
-/// is written for it.
+/// States that an export is read back from each text that has the value written for it, if its
+/// values fit a frame.
 // promise: exports
 pub fn export_reads_back()
     ensures { ExportReadsBack }

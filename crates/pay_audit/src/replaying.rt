@@ -1,22 +1,81 @@
-//! A history taken once more, entry by entry.
+//! A history replayed entry by entry.
 
 ghost use Rattle.std.specs.Prelude.{◌≡◌, ◌↔◌, [], IfErr, IfOk, IsTrue, OnOk};
 ghost use Rattle.std.specs.Bool.{OnTrue};
+ghost use Rattle.pay_audit.specs.Faults.{replay_fault_name, replay_fault_number};
+ghost use Rattle.pay_audit.specs.Replay.{IsCause};
 ghost use Rattle.pay_link.specs.Keys.{IsKeysOf};
 ghost use Rattle.pay_member.specs.Events.{events};
 ghost use Rattle.pay_member.specs.Legal.{IsOwed, Legal};
 ghost use Rattle.pay_member.specs.Member.{with_entry};
-ghost use Rattle.pay_audit.specs.Replay.{IsCause};
 
-use crate::replay_fault::ReplayFault;
 use pay_book::Settle;
 use pay_echo::Instance;
 use pay_link::{Genesis, Keys};
 use pay_member::laws::legal_histories;
 use pay_member::{HistoryEntry, Member, MemberFault};
 use std::alloc::{AllocError, Global};
+use std::fmt;
+use thiserror::Error;
 
-/// The member that has this history, if one can have it. The keys are one member's of that genesis.
+/// The reason why a history wasn't replayed. `Memory` is outside of the order of the tests.
+#[derive(Clone, Copy, Debug, PartialEq, Eq, Error)]
+pub enum ReplayFault {
+    Memory,
+    /// The entry at this place is the first that a member can't have after those before it.
+    Illegal(usize),
+}
+
+impl ReplayFault {
+    // promise: order of refusals (number, name)
+    const fn entry(self) -> (u8, &'static str)
+        ensures number { result.0 ≡ replay_fault_number self }
+        ensures name { result.1.now ≡ replay_fault_name self }
+    {
+        match self {
+            ReplayFault::Memory => (0, "Memory"),
+            ReplayFault::Illegal(_) => (1, "Illegal"),
+        }
+    }
+
+    /// Returns the number that the fault is printed with.
+    pub fn number(self) -> u8
+        ensures value { result ≡ replay_fault_number self }
+    {
+        self.entry().0
+    }
+
+    /// Returns the name that the fault is printed with.
+    pub fn name(self) -> &'static str
+        ensures value { result.now ≡ replay_fault_name self }
+    {
+        self.entry().1
+    }
+}
+
+impl fmt::Display for ReplayFault {
+    ghost use Rattle.std.specs.Prelude.{Some};
+    ghost use Rattle.pay_audit.specs.Faults.{replay_fault_words};
+
+    ghost output = { λ fault. Some (replay_fault_words fault) };
+
+    fn fmt<W: fmt::Write>(&self, f: &mut fmt::Formatter<W>) -> fmt::Result {
+        write!(f, "{} {}", self.number(), self.name())
+    }
+}
+
+impl From<AllocError> for ReplayFault {
+    ghost use Rattle.pay_audit.specs.declared.replaying.ReplayFault.TheVariants.{Memory};
+
+    ghost from_gives = { λ _ e. e ≡ Memory };
+
+    fn from(_error: AllocError) -> ReplayFault {
+        ReplayFault::Memory
+    }
+}
+
+/// Returns the member that has this `history`, if a member can have it. The keys belong to a member
+/// of `genesis`.
 // promise: replay
 pub fn replay<I: Instance + Drop, B: Settle + Drop>(
     alloc: Global,
@@ -35,7 +94,7 @@ pub fn replay<I: Instance + Drop, B: Settle + Drop>(
     Ok(member)
 }
 
-/// A member that has no history yet.
+/// Returns a member that has no history yet.
 fn fresh<I: Instance + Drop, B: Settle + Drop>(
     alloc: Global,
     genesis: &Genesis,
@@ -49,8 +108,8 @@ fn fresh<I: Instance + Drop, B: Settle + Drop>(
     Member::new(alloc, genesis, keys.copy(alloc)?)
 }
 
-/// Takes entries once more, up to the first that isn't the one owed, after which the member isn't
-/// to be used further.
+/// Replays entries, up to the first that isn't the one owed. After that the member may not be used
+/// further.
 fn take_all_again<I: Instance + Drop, B: Settle + Drop>(
     alloc: Global,
     member: &mut Member<I, B>,
@@ -70,8 +129,8 @@ fn take_all_again<I: Instance + Drop, B: Settle + Drop>(
     Ok(())
 }
 
-/// Takes an entry once more, and says whether it is the one owed. If it isn't, the member isn't to
-/// be used further.
+/// Replays `entry`, and returns whether it is the one owed. If it isn't, the member may not be used
+/// further.
 fn take_again<I: Instance + Drop, B: Settle + Drop>(
     alloc: Global,
     member: &mut Member<I, B>,

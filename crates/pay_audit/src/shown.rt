@@ -1,4 +1,4 @@
-//! The texts of an export and of a genesis that are there as values.
+//! The texts of an export and of a genesis that are values in memory.
 
 ghost use Rattle.std.specs.Prelude.{◌≡◌, [], Err, IfOk, IsOkUnless, MatchOption, Ok, OnOk, map};
 ghost use Rattle.std.specs.String.{string_bytes};
@@ -18,7 +18,7 @@ use pay_link::{Genesis, GenesisFault};
 use serde_json::{Map, Value, put};
 use std::alloc::{AllocError, Global};
 
-/// The text of an export, without spaces. `read_export` reads it as that export.
+/// Returns the text of `export`, without spaces. `read_export` reads it as that export.
 // promise: group's book
 pub fn shown_text(alloc: Global, export: &Export) -> Result<String, AllocError>
     ensures text { IfOk result
@@ -34,7 +34,7 @@ pub fn shown_text(alloc: Global, export: &Export) -> Result<String, AllocError>
     Ok(text)
 }
 
-/// The text of a genesis, without spaces.
+/// Returns the text of `genesis`, without spaces.
 // promise: group's book
 pub fn genesis_text(alloc: Global, genesis: &Genesis) -> Result<String, AllocError>
     ensures { IfOk result (λ text.
@@ -53,8 +53,8 @@ fn genesis_value(alloc: Global, genesis: &Genesis) -> Result<Value, AllocError>
     Ok(Value::Object(parts))
 }
 
-/// The genesis in which each account opens with its balance in an export, if its balances have a
-/// total that one can have.
+/// Returns the genesis with each account's balance in `export` as its opening, if the balances have
+/// a total that is allowed.
 // promise: group's book
 pub fn next_genesis(alloc: Global, export: &Export) -> Result<Genesis, GenesisFault>
     ensures fault { MatchOption (genesis_fault (next_genesis export.now))
@@ -79,7 +79,7 @@ fn value_of(alloc: Global, export: &Export) -> Result<Value, AllocError>
     Ok(Value::Object(parts))
 }
 
-/// Puts what an export's book says into an object that has what the ledger began with.
+/// Puts the contents of an export's ledger into an object that has the genesis.
 #[tactic(auto, unfolding(crate::specs::Exporting::export_data))]
 fn put_book(
     alloc: Global,

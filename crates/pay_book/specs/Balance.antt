@@ -1,16 +1,16 @@
--- Balances at a front. A front gives each account a place in its list of entries: those before it
--- are settled.
+-- Balances at a front. A front gives each account a place in its list of entries: the entries
+-- before it are settled.
 use Rattle.std.specs.Prelude.{◌≡◌, ℕ, zero, suc, ◌+◌, ◌<◌, ℤ, pos, ◌-ℤ◌, List, length, take}
 use Rattle.std.specs.Prelude.{slice_index, sum_by, All, ◌==◌, if◌then◌else◌}
 use Rattle.pay_book.specs.declared.payment.Entry.{Entry}
 use Rattle.pay_book.specs.declared.payment.Entry.TheVariants.{Pay, Void}
 
--- what an entry takes from its owner
+-- what an entry takes from its owner's account
 abbrev pub amount_of : Entry → ℕ
 amount_of (Pay payee amount) = amount
 amount_of Void = 0
 
--- what an entry brings to an account
+-- what an entry adds to an account
 abbrev pub amount_to : ℕ → Entry → ℕ
 amount_to account (Pay payee amount) = if payee == account then amount else 0
 amount_to account Void = 0
@@ -20,7 +20,7 @@ abbrev pub sum_below : ℕ → (ℕ → ℕ) → ℕ
 sum_below zero f = 0
 sum_below (suc n) f = sum_below n f + f n
 
--- what all settled entries brought to an account
+-- what all settled entries added to an account
 abbrev pub paid_in : ℕ → (ℕ → List Entry) → (ℕ → ℕ) → ℕ → ℕ
 paid_in accounts logs front account =
     sum_below accounts (λ owner. sum_by (amount_to account) (take (front owner) (logs owner)))
@@ -29,8 +29,8 @@ paid_in accounts logs front account =
 abbrev pub paid_out : (ℕ → List Entry) → (ℕ → ℕ) → ℕ → ℕ
 paid_out logs front account = sum_by amount_of (take (front account) (logs account))
 
--- An account's balance: what it opened with and what came in, less what went out. Nothing here
--- keeps it from being negative.
+-- An account's balance: what it opened with and what came in, less what went out. This definition
+-- doesn't keep the balance from being negative.
 -- page: `balance_at`: at a front, the opening balance and what came in, less what went out; a
 --   signed number, so that "never negative" says something
 abbrev pub balance_at : List ℕ → (ℕ → List Entry) → (ℕ → ℕ) → ℕ → ℤ
@@ -53,8 +53,8 @@ PayWithin accounts Void = Unit {0}
 abbrev pub AllPayWithin : ℕ → (ℕ → List Entry) → Type 0
 AllPayWithin accounts logs = (owner : ℕ) → owner < accounts → All (PayWithin accounts) (logs owner)
 
--- Each account has what it had, less what this entry takes from its owner's account, and with what
--- it brings.
+-- Each account has its old balance, less what this entry takes from its owner's account, and plus
+-- what the entry adds.
 abbrev pub MovesAmount : Entry → ℕ → List ℕ → List ℕ → Type 0
 MovesAmount entry owner old new =
     (a : ℕ)

@@ -1,4 +1,4 @@
--- What a book shows, and when that is right.
+-- What a ledger shows, and when that is right.
 use Rattle.std.specs.Prelude.{◌≡◌, ◌≢◌, ℕ, ◌+◌, ◌<◌, ◌^◌, List, length, replicate, slice_index}
 use Rattle.std.specs.Prelude.{slice_get, slice_set, sum, Some}
 use Rattle.pay_book.specs.declared.payment.Entry.{Entry}
@@ -7,8 +7,8 @@ use Rattle.pay_book.specs.Places.{Place, ArePlaces}
 use Rattle.pay_book.specs.Balance.{AreBalances}
 use Rattle.pay_book.specs.Front.{MayStep, Reach, entry_count, largest_front}
 
--- The opening balances that a book was made with, its front and its balances, each account's at its
--- place, and where each account's front falls in its list of values.
+-- The opening balances of a ledger, its front and its balances, each account's at its place.
+-- `places` has the place of each account's front in its list of values.
 pub record Standing : Type 0 where
   pub opening : List ℕ
   pub front : List ℕ
@@ -19,8 +19,8 @@ abbrev pub standing_of_parts : List ℕ → List ℕ → List ℕ → List Place
 standing_of_parts opening front balances places =
     record { opening = opening; front = front; balances = balances; places = places }
 
--- Each account has its places, and no count of accounts or sum of balances is more than the book's
--- numbers hold.
+-- Each account has its places, and no count of accounts or sum of balances exceeds the ledger's
+-- numbers.
 pub record IsSoundBook (book : Standing) : Type 0 where
   pub front_for_each : length book.front ≡ length book.opening
   pub balance_for_each : length book.balances ≡ length book.opening
@@ -28,7 +28,7 @@ pub record IsSoundBook (book : Standing) : Type 0 where
   pub accounts : length book.opening < 2 ^ 16
   pub total : sum book.opening < 2 ^ 64
 
--- a book in which nothing is settled
+-- a ledger without settled entries
 abbrev pub fresh : List ℕ → Standing
 fresh opening =
     record {
@@ -38,32 +38,30 @@ fresh opening =
       places = replicate (length opening) (0, 0);
     }
 
--- the owners' lists as this book reads them
+-- the owners' lists as this ledger reads them
 abbrev pub entries_for : Standing → (ℕ → List (List ℕ)) → ℕ → List Entry
 entries_for book lists = entries_of (length book.opening) lists
 
--- The account's next entry may settle in this book.
+-- The account's next entry may settle in this ledger.
 abbrev pub MaySettle : (ℕ → List (List ℕ)) → Standing → ℕ → Type 0
 MaySettle lists book account =
     MayStep book.opening (entries_for book lists) (slice_index book.front) account
 
--- No account's may.
+-- No account's next entry may settle.
 abbrev pub IsStuck : (ℕ → List (List ℕ)) → Standing → Type 0
 IsStuck lists book = (a : ℕ) → MaySettle lists book a → ⊥
 
--- The book stands at a front that steps reach, with the balances and places there.
--- page: `IsBook`, `IsSettled`, `CanSettle`: a book is at a reached front, with the balances there;
---   that front is the largest; only one owner may have a step, and there are fewer than 2^32
+-- The ledger stands at a front that steps reach, with the balances and places there.
+-- page: `IsBook`, `IsSettled`, `CanSettle`: a ledger is at a reached front, with the balances
+--   there; that front is the largest; only one owner may have a step, and there are fewer than 2^32
 --   entries
--- term: book: what has settled: a front, with the balances and places there
 pub record IsBook (lists : ℕ → List (List ℕ)) (book : Standing) : Type 0 where
   pub reached : Reach book.opening (entries_for book lists) (slice_index book.front)
   pub one_for_each : length book.front ≡ length book.opening
   pub are : AreBalances book.opening (entries_for book lists) (slice_index book.front) book.balances
   pub placed : ArePlaces (length book.opening) lists (slice_index book.front) book.places
 
--- It stands at the largest front.
--- term: settled: of an entry: it is before the front, and its amount has moved
+-- The ledger stands at the largest front.
 pub record IsSettled (lists : ℕ → List (List ℕ)) (book : Standing) : Type 0 where
   pub is : IsBook lists book
   pub largest : book.front ≡ largest_front book.opening (entries_for book lists)
@@ -79,7 +77,7 @@ pub record CanSettle (lists : ℕ → List (List ℕ)) (book : Standing) (owner 
   pub account : owner < length book.opening
   pub only_owner : (a : ℕ) → a ≢ owner → MaySettle lists book a → ⊥
 
--- One entry of this account settled.
+-- An entry of this account settled.
 pub record IsStep (lists : ℕ → List (List ℕ)) (old : Standing) (account : ℕ) (entry : Entry)
     (new : Standing) : Type 0 where
   pub same_opening : new.opening ≡ old.opening

@@ -1,5 +1,4 @@
--- Entries of an account one after the other: those that settled from a number on, and those that
--- wait.
+-- Consecutive entries of an account: those that settled from a number on, and those that wait.
 use Rattle.std.specs.Prelude.{ℕ, List, length, map, take, drop, slice_get, slice_index}
 use Rattle.std.specs.Option.{option_and_then}
 use Rattle.pay_book.specs.declared.payment.Entry.{Entry}
@@ -9,20 +8,20 @@ use Rattle.pay_book.specs.Book.{Standing}
 use Rattle.pay_book.specs.Notes.{note_of}
 use Rattle.pay_book.specs.Statement.{numbered_entries_of}
 
--- The number of the first, the entries, and the account's balance.
+-- The number of the first entry, the entries, and the account's balance.
 pub record ExcerptFields : Type 0 where
   pub first : ℕ
   pub entries : List ShownEntry
   pub balance : ℕ
 
--- an entry with the number of its value among these, and the text that the value says
+-- an entry with the number of its value among these, and the text that the value contains
 abbrev pub shown_among : List (List ℕ) → ℕ × Entry → ShownEntry
 shown_among values e =
     record { seq = e.0; entry = e.1; note = option_and_then note_of (slice_get values e.0) }
 
 -- an account's settled entries from a number on: at most as many as an excerpt shows
--- page: `settled_from`, `waiting_of`: of an account, its settled entries from a number on, and
---   those that its values have after the front: at most 1,000, each with its value's seq and note
+-- page: `settled_from`, `waiting_of`: of an account, its settled entries from a number on, and the
+--   entries of its values after the front: at most 1,000, each with its value's seq and note
 unfoldable pub settled_from : Standing → (ℕ → List (List ℕ)) → ℕ → ℕ → List ShownEntry
 settled_from book lists account from =
     map (shown_among (lists account))
@@ -39,7 +38,7 @@ settled_excerpt book lists account from =
       balance = slice_index book.balances account;
     }
 
--- those that aren't settled: the first of them, at most as many as an excerpt shows
+-- the entries that aren't settled: the first of them, at most as many as an excerpt shows
 unfoldable pub waiting_of : Standing → (ℕ → List (List ℕ)) → ℕ → List ShownEntry
 waiting_of book lists account =
     map (shown_among (lists account))

@@ -1,4 +1,5 @@
--- Which fronts settling reaches: one account's next entry at a time, when its balance covers it.
+-- The fronts that settling reaches: one account's next entry settles at a time, when its balance
+-- covers it.
 use Rattle.std.specs.Prelude.{◌≡◌, ◌≢◌, ℕ, zero, suc, ◌+◌, ◌<◌, ◌≤◌, ℤ, pos, ◌≤ℤ◌, Bool, true}
 use Rattle.std.specs.Prelude.{false, nat_le, List, length, replicate, slice_index, slice_get}
 use Rattle.std.specs.Prelude.{slice_set, Option, Some, None}
@@ -16,18 +17,17 @@ Covers balance (Some (Pay payee amount)) = pos amount ≤ℤ balance
 
 -- The account's next entry may settle.
 -- page: `MayStep`, `Reach`: an account's next entry may settle; the fronts that such steps lead to
---   from the one where nothing is settled
--- term: front: how many entries of each account are settled
+--   from the one at which nothing is settled
 abbrev pub MayStep : List ℕ → (ℕ → List Entry) → (ℕ → ℕ) → ℕ → Type 0
 MayStep opening logs front a =
     (a < length opening) × Covers (balance_at opening logs front a) (slice_get (logs a) (front a))
 
--- The next front has this account one place further, and every other where it was.
+-- The next front has this account one place further, and every other account unchanged.
 pub record IsOneFurther (front : ℕ → ℕ) (a : ℕ) (next : ℕ → ℕ) : Type 0 where
   pub moved : next a ≡ front a + 1
   pub others : (b : ℕ) → b ≢ a → next b ≡ front b
 
--- The fronts that allowed steps lead to, from the one where nothing is settled.
+-- The fronts that allowed steps lead to, from the front at which nothing is settled.
 pub data Reach (opening : List ℕ) (logs : ℕ → List Entry) : (ℕ → ℕ) → Type 0 where
   Start : {front : ℕ → ℕ} → ((a : ℕ) → front a ≡ 0) → Reach opening logs front
   Step : {front next : ℕ → ℕ} → (a : ℕ) → Reach opening logs front → MayStep opening logs front a
@@ -35,7 +35,7 @@ pub data Reach (opening : List ℕ) (logs : ℕ → List Entry) : (ℕ → ℕ) 
 
 -- The reached front that no reached front exceeds anywhere.
 -- page: `IsLargest`, `largest_front`: the reached front that no reached front exceeds anywhere; a
---   plain computation of it ([law](HEADLINE.md#the-argument) `largest_is_computed`)
+--   plain computation of it ([law](theorem.md#the-argument) `largest_is_computed`)
 pub record IsLargest (opening : List ℕ) (logs : ℕ → List Entry) (front : ℕ → ℕ) : Type 0 where
   pub reached : Reach opening logs front
   pub greatest : (other : ℕ → ℕ) → Reach opening logs other → (a : ℕ) → other a ≤ front a
@@ -64,7 +64,7 @@ front_after_turns opening logs (suc turns) front =
     front_after_turns opening logs turns (front_after_step front
     (find (may_step opening logs front) (range_with_len 0 (length opening))))
 
--- how many entries all lists have
+-- the count of entries in all lists
 abbrev pub entry_count : ℕ → (ℕ → List Entry) → ℕ
 entry_count accounts logs = sum_below accounts (λ a. length (logs a))
 

@@ -1,4 +1,4 @@
--- The laws of settling, over any entries; src/laws.rt says each in words.
+-- The laws of settling, over any entries; src/laws.rt states each in words.
 use Rattle.std.specs.Prelude.{◌≡◌, ◌⊎◌, ◌↔◌, ℕ, ◌+◌, ◌*◌, ◌^◌, ◌<◌, ◌≤◌, max, pos, ◌≤ℤ◌, false}
 use Rattle.std.specs.Prelude.{List, [], ◌∷◌, ◌++◌, length, map, take, slice_index, slice_get, sum}
 use Rattle.std.specs.Prelude.{Some, All}
@@ -136,7 +136,7 @@ ValuesHaveFewEntries =
 abbrev pub NotesAreRead : Type 0
 NotesAreRead = (value text : List ℕ) → (note_of value ≡ Some text) ↔ IsNote value text
 
--- A note is one void entry, whoever says it and however many accounts there are.
+-- A note is one void entry, whoever broadcasts it and however many accounts there are.
 abbrev pub NotesAreVoid : Type 0
 NotesAreVoid =
     (accounts owner : ℕ) (text : List ℕ)
@@ -147,7 +147,7 @@ SameListsStaySettled =
     (old new : ℕ → List (List ℕ)) (book : Standing) →
     ((a : ℕ) → a < length book.opening → old a ≡ new a) → IsSettled old book → IsSettled new book
 
--- ---- the book that has settled all it can
+-- ---- the ledger that has settled all it can
 
 abbrev pub SettledBookExists : Type 0
 SettledBookExists =
@@ -214,7 +214,7 @@ SettledEntriesWereAsked =
 
 -- ---- values of several payments
 
--- A value's entries are as many as `count_in` says.
+-- A value has as many entries as `count_in` says.
 abbrev pub ValuesCountTheirEntries : Type 0
 ValuesCountTheirEntries =
     (accounts owner : ℕ) (value : List ℕ)
@@ -225,16 +225,16 @@ abbrev pub AllSingle : ℕ → (ℕ → List (List ℕ)) → Type 0
 AllSingle accounts lists =
     (a : ℕ) → a < accounts → All (λ v. is_several v ≡ false) (lists a)
 
--- One entry for each value, as before there were values of several payments.
+-- One entry for each value, as before values of several payments existed.
 abbrev pub former_entries_of : ℕ → (ℕ → List (List ℕ)) → ℕ → List Entry
 former_entries_of accounts lists owner = map (entry_of accounts owner) (lists owner)
 
--- each with the place of its value
+-- each entry with the place of its value
 abbrev pub former_numbered_entries_of : ℕ → (ℕ → List (List ℕ)) → ℕ → List (ℕ × Entry)
 former_numbered_entries_of accounts lists owner =
     map (λ v. (v.0, entry_of accounts owner v.1)) (enumerate_from 0 (lists owner))
 
--- and the statement of them
+-- the statement of these entries
 abbrev pub former_statement_of : ℕ → (ℕ → List (List ℕ)) → (ℕ → ℕ) → ℕ → List Line
 former_statement_of accounts lists front account =
     map (λ e. own_line e.0 e.1)
@@ -244,7 +244,7 @@ former_statement_of accounts lists front account =
     (take (front owner) (former_numbered_entries_of accounts lists owner)))
     (range_with_len 0 accounts)
 
--- All is as it was.
+-- All is as it was before values of several payments existed.
 pub record IsAsFormer (opening : List ℕ) (lists : ℕ → List (List ℕ)) : Type 0 where
   pub entries :
       (a : ℕ) → a < length opening →
@@ -269,8 +269,8 @@ SingleEntries =
     (opening : List ℕ) (lists : ℕ → List (List ℕ)) →
     AllSingle (length opening) lists → IsAsFormer opening lists
 
--- The account's place says which of its values are settled wholly: those whose entries are all
--- before the front; and how many entries of the next one are.
+-- The account's place says which of its values are wholly settled, with all their entries before
+-- the front, and how many entries of the next value are.
 pub record TellsWhole (lists : ℕ → List (List ℕ)) (book : Standing) (a : ℕ) : Type 0 where
   pub within : (place_of book.places a).0 ≤ length (lists a)
   pub part :
@@ -292,7 +292,7 @@ WhollySettled =
     (lists : ℕ → List (List ℕ)) (book : Standing) (a : ℕ) →
     IsBook lists book → a < length book.opening → TellsWhole lists book a
 
--- ---- values that are settled wholly
+-- ---- values that are wholly settled
 
 abbrev pub SettledBookTellsPlaces : Type 0
 SettledBookTellsPlaces =
@@ -317,7 +317,7 @@ SettledValuesBeginEntries =
 abbrev pub FitsBytes : Payment → Type 0
 FitsBytes p = (p.payee < 2 ^ 16) × (p.amount < 2 ^ 64)
 
--- what it means in the list of this owner
+-- the meaning of a payment in the list of this owner
 abbrev pub entry_for : ℕ → ℕ → Payment → Entry
 entry_for accounts owner p = payment accounts owner p.payee p.amount
 

@@ -1,4 +1,4 @@
--- Values that say something in their owner's name, and pay nothing.
+-- Values that contain a text in their owner's name, and pay nothing.
 use Rattle.std.specs.Prelude.{◌≡◌, ℕ, ◌==◌, nat_lt, nat_le, ◌&&◌, not, Bool, true, List, [], ◌∷◌}
 use Rattle.std.specs.Prelude.{length, Option, Some, None, if◌then◌else◌}
 use Rattle.std.specs.List.{list_any}
@@ -12,16 +12,15 @@ is_note_text text =
     nat_lt 0 (length text) && nat_le (length text) MOST_NOTE && is_utf8 text
     && not (list_any is_control (chars text))
 
--- the value that says this text: the version, and the text as it is
+-- the value of a note with this text: the version, and then the text
 unfoldable pub note_value : List ℕ → List ℕ
 note_value text = NOTE_VERSION ∷ text
 
 -- The value is the note of this text.
--- term: note: a value that says a text in its owner's name
 abbrev pub IsNote : List ℕ → List ℕ → Type 0
 IsNote value text = (value ≡ note_value text) × (is_note_text text ≡ true)
 
--- the text that a value says, if it is a note
+-- the text of a value, if it is a note
 unfoldable pub note_of : List ℕ → Option (List ℕ)
 note_of [] = None
 note_of (version ∷ text) =

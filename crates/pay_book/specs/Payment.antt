@@ -1,4 +1,4 @@
--- What broadcast values mean to the book: this project's own format, stated in docs/DEFINITIONS.md.
+-- What broadcast values mean to the ledger: this project's own format, stated in docs/formats.md.
 use Rattle.std.specs.Prelude.{ℕ, ◌+◌, ◌*◌, ◌^◌, Option, Some, None, Bool, List, [], ◌∷◌, ◌++◌}
 use Rattle.std.specs.Prelude.{length, map, slice_index, slice_range, nat_lt, nat_le, ◌==◌, ◌&&◌}
 use Rattle.std.specs.Prelude.{not, if◌then◌else◌}
@@ -11,7 +11,7 @@ use Rattle.pay_book.specs.declared.payment.TheConstants.{SEVERAL_VERSION, MOST_P
 use Rattle.pay_book.specs.declared.payment.TheConstants.{PAIR_LENGTH}
 use Rattle.pay_book.specs.declared.payment.Entry.TheVariants.{Pay, Void}
 
--- A payment to an account that is there, that isn't the owner's own, of more than nothing; else
+-- A payment of more than nothing to an existing account that isn't the owner's own. Otherwise
 -- nothing moves.
 abbrev pub payment : ℕ → ℕ → ℕ → ℕ → Entry
 payment accounts owner payee amount =
@@ -26,7 +26,7 @@ pair_entry accounts owner pair =
     payment accounts owner (from_be_bytes w16 (slice_range pair 0 2))
     (from_be_bytes w64 (slice_range pair 2 PAIR_LENGTH))
 
--- A value of one payment: the version and the pair. Nothing else is one.
+-- A value of one payment: the version and the pair. No other value is one.
 unfoldable pub entry_of : ℕ → ℕ → List ℕ → Entry
 entry_of accounts owner value =
     if length value == PAYMENT_LENGTH && slice_index value 0 == PAYMENT_VERSION
@@ -57,19 +57,18 @@ abbrev pub pair_at : List ℕ → ℕ → List ℕ
 pair_at value place =
     slice_range value (2 + PAIR_LENGTH * place) (2 + PAIR_LENGTH * place + PAIR_LENGTH)
 
--- how many entries a value has at most
+-- the most entries that a value has
 abbrev pub most_entries : ℕ
 most_entries = MOST_PAYMENTS
 
--- how many entries a value has
+-- the count of entries of a value
 unfoldable pub count_in : List ℕ → ℕ
 count_in value = if is_several value then slice_index value 1 else 1
 
--- A value's entries, in its order: one for each pair of several payments; else the value is one
--- entry.
+-- A value's entries, in its order: one for each pair of several payments. Otherwise the value is
+-- one entry.
 -- page: `entries_in`, `payment_value`, `payments_value`: a value's entries; the value of one
 --   payment, and of several
--- term: value: the bytes that a member broadcasts: 1 to 32 payments
 unfoldable pub entries_in : ℕ → ℕ → List ℕ → List Entry
 entries_in accounts owner value =
     if is_several value
@@ -91,7 +90,7 @@ names_payee pair = nat_lt pair.0 (2 ^ 16)
 abbrev pub payment_named : ℕ × ℕ → Payment
 payment_named pair = record { payee = pair.0; amount = pair.1 }
 
--- these payments, where values can name their payees
+-- these payments, if values can name their payees
 unfoldable pub payments_named : List (ℕ × ℕ) → Option (List Payment)
 payments_named pairs =
     if list_all names_payee pairs then Some (map payment_named pairs) else None

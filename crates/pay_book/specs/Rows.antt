@@ -11,7 +11,7 @@ use Rattle.pay_book.specs.Front.{largest_front}
 use Rattle.pay_book.specs.Book.{Standing}
 use Rattle.pay_book.specs.Places.{places_of}
 
--- values, byte by byte: to account 1 thirty, to 0, 1, 2, 3 and 4 five; then three that are no
+-- values, byte by byte: thirty to account 1, five to 0, 1, 2, 3 and 4; then three that are no
 -- payments
 abbrev pub thirty_to_1 : List ℕ
 thirty_to_1 = 1 ∷ 0 ∷ 1 ∷ 0 ∷ 0 ∷ 0 ∷ 0 ∷ 0 ∷ 0 ∷ 0 ∷ 30 ∷ []
@@ -40,7 +40,7 @@ one_byte_short = 1 ∷ 0 ∷ 1 ∷ 0 ∷ 0 ∷ 0 ∷ 0 ∷ 0 ∷ 0 ∷ 0 ∷ []
 abbrev pub amount_zero : List ℕ
 amount_zero = 1 ∷ 0 ∷ 1 ∷ 0 ∷ 0 ∷ 0 ∷ 0 ∷ 0 ∷ 0 ∷ 0 ∷ 0 ∷ []
 
--- and some that only these examples have
+-- values that only these examples have
 abbrev pub ten_to_0 : List ℕ
 ten_to_0 = 1 ∷ 0 ∷ 0 ∷ 0 ∷ 0 ∷ 0 ∷ 0 ∷ 0 ∷ 0 ∷ 0 ∷ 10 ∷ []
 
@@ -65,8 +65,9 @@ one_to_1 = 1 ∷ 0 ∷ 1 ∷ 0 ∷ 0 ∷ 0 ∷ 0 ∷ 0 ∷ 0 ∷ 0 ∷ 1 ∷ []
 abbrev pub greatest_total_to_1 : List ℕ
 greatest_total_to_1 = 1 ∷ 0 ∷ 1 ∷ 127 ∷ 255 ∷ 255 ∷ 255 ∷ 255 ∷ 255 ∷ 255 ∷ 255 ∷ []
 
--- and some of several payments: to 1 thirty, to 2 fifty, to 1 forty, to 2 twenty; to 1 five and to
--- 3 one; of no payments; the first with a byte more and a byte less; and so many times one to 1
+-- Values of several payments: thirty to 1, fifty to 2, forty to 1, twenty to 2; and five to 1, one
+-- to 3. Then a value without payments, the first value with a byte more and a byte less, and `n`
+-- times one to 1.
 abbrev pub pair_bytes : ℕ → ℕ → List ℕ
 pair_bytes payee amount = 0 ∷ payee ∷ 0 ∷ 0 ∷ 0 ∷ 0 ∷ 0 ∷ 0 ∷ 0 ∷ amount ∷ []
 
@@ -88,7 +89,7 @@ four_payments_and_less = take 41 four_payments
 abbrev pub times_one_to_1 : ℕ → List ℕ
 times_one_to_1 n = 2 ∷ n ∷ flat_map (λ _. pair_bytes 1 1) (range_with_len 0 n)
 
--- one number for each of the four accounts
+-- a number for each of the four accounts
 abbrev pub four_numbers : ℕ → ℕ → ℕ → ℕ → List ℕ
 four_numbers a b c d = a ∷ b ∷ c ∷ d ∷ []
 
@@ -97,7 +98,8 @@ abbrev pub four_lists :
     List (List ℕ) → List (List ℕ) → List (List ℕ) → List (List ℕ) → ℕ → List (List ℕ)
 four_lists a b c d owner = slice_index_or (a ∷ b ∷ c ∷ d ∷ []) owner []
 
--- A book of these opening balances that has settled all it can shows this front and these balances.
+-- A ledger with these opening balances that has settled all it can shows this front and these
+-- balances.
 pub record EndsAt (opening : List ℕ) (lists : ℕ → List (List ℕ)) (front balances : List ℕ)
     : Type 0 where
   pub at_front : largest_front opening (entries_of (length opening) lists) ≡ front
@@ -106,8 +108,8 @@ pub record EndsAt (opening : List ℕ) (lists : ℕ → List (List ℕ)) (front 
       (range_with_len 0 (length opening))
       ≡ map pos balances
 
--- Account 0 lists four payments in one value and one payment in another, account 1 lists one to
--- account 0; the first three of account 0 and that of account 1 are settled.
+-- Account 0 lists four payments in one value and one payment in another. Account 1 lists one
+-- payment to account 0. The first three of account 0 and the one of account 1 are settled.
 abbrev pub five_listed : ℕ → List (List ℕ)
 five_listed = four_lists (four_payments ∷ thirty_to_1 ∷ []) (thirty_to_0 ∷ []) [] []
 

@@ -1,4 +1,4 @@
--- What a book shows once it has settled all that it can, as a function of the lists.
+-- What a ledger shows after it has settled all it can, as a function of the lists.
 use Rattle.std.specs.Prelude.{ℕ, ◌+◌, ◌-◌, List, length, map, take, slice_index}
 use Rattle.std.specs.List.{range_with_len}
 use Rattle.pay_book.specs.declared.payment.Entry.{Entry}
@@ -8,7 +8,7 @@ use Rattle.pay_book.specs.Balance.{paid_in, paid_out}
 use Rattle.pay_book.specs.Front.{largest_front}
 use Rattle.pay_book.specs.Book.{Standing}
 
--- The balances at a front, each account's at its place, where none is below zero.
+-- The balances at a front, each account's at its place, if none is below zero.
 unfoldable pub balances_of : List ℕ → (ℕ → List Entry) → (ℕ → ℕ) → List ℕ
 balances_of opening logs front =
     map (λ a. (slice_index opening a + paid_in (length opening) logs front a)
@@ -19,7 +19,7 @@ balances_of opening logs front =
 abbrev pub settled_front : List ℕ → (ℕ → List (List ℕ)) → List ℕ
 settled_front opening lists = largest_front opening (entries_of (length opening) lists)
 
--- The book at that front.
+-- The ledger at that front.
 abbrev pub settled_book : List ℕ → (ℕ → List (List ℕ)) → Standing
 settled_book opening lists =
     let front = settled_front opening lists in
@@ -39,12 +39,12 @@ settled_entries opening lists account =
     take (slice_index (settled_front opening lists) account)
     (entries_of (length opening) lists account)
 
--- where that front falls among the account's values
+-- the place of that front among the account's values
 abbrev pub settled_place : List ℕ → (ℕ → List (List ℕ)) → ℕ → Place
 settled_place opening lists account =
     place_in count_in (lists account) (slice_index (settled_front opening lists) account)
 
--- An account's values that are settled wholly.
+-- An account's values that are wholly settled.
 abbrev pub settled_values : List ℕ → (ℕ → List (List ℕ)) → ℕ → List (List ℕ)
 settled_values opening lists account =
     take (settled_place opening lists account).0 (lists account)

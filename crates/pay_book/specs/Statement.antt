@@ -33,8 +33,8 @@ incoming_lines accounts lists front account owner =
     filter_map (λ e. incoming_line account owner e.0 e.1)
     (take (front owner) (numbered_entries_of accounts lists owner))
 
--- The account's own settled entries by place, voids too; then the settled payments to it, by owner
--- and place.
+-- The account's own settled entries by place, including void ones, then the settled payments to it,
+-- by owner and place.
 unfoldable pub statement_of : ℕ → (ℕ → List (List ℕ)) → (ℕ → ℕ) → ℕ → List Line
 statement_of accounts lists front account =
     own_lines accounts lists front account

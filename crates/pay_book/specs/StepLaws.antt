@@ -1,5 +1,5 @@
--- What one step of a book does, and when there is none left, as statements. Each is proved as a
--- public law; src/step_laws.rt says it in words.
+-- Statements about what one step of a ledger does, and when no step is left. Each is proved as a
+-- public law; src/laws.rt states each in words.
 use Rattle.std.specs.Prelude.{◌≡◌, ◌≢◌, ℕ, ◌+◌, ◌≤◌, List, length, sum}
 use Rattle.pay_book.specs.declared.payment.Entry.{Entry}
 use Rattle.pay_book.specs.Balance.{amount_to, PayWithin}

@@ -1,29 +1,27 @@
-//! A book's accounts, which move by one settled entry at a time.
+//! A ledger's accounts, which move by one settled entry at a time.
 
 ghost use Rattle.std.specs.Prelude.{◌≡◌, ◌+◌, ◌<◌, ◌≤◌, ◌^◌, ◌↔◌, length, sum, slice_get};
 ghost use Rattle.std.specs.Prelude.{slice_index, slice_set, IsTrue, IfOk, IfNone, IfSome};
 ghost use Rattle.std.specs.Bool.{OnTrue, OnFalse};
 ghost use Rattle.pay_book.specs.Balance.{amount_of, PayWithin, MovesAmount};
+ghost use Rattle.pay_book.specs.Book.{fresh, entries_for, AreCountable, MaySettle, IsBook, IsStep};
 ghost use Rattle.pay_book.specs.Payment.{count_in};
 ghost use Rattle.pay_book.specs.Places.{place_in, place_of};
-ghost use Rattle.pay_book.specs.Book.{fresh, entries_for, AreCountable, MaySettle, IsBook, IsStep};
 
-use crate::decode::entry_at;
-use crate::payment::Entry;
-use crate::place::place_after;
+use crate::payment::{Entry, entry_at, place_after};
 use pay_channel::Source;
 use pay_link::Genesis;
 use std::alloc::{AllocError, Global};
 use std::marker::Model;
 
-// term: account: what one member owns: a list of values, a balance and a front
-/// The opening balances of all accounts, and what settling made of them.
+/// The opening balances of all accounts, and their state after settling.
 #[derive(Debug, Drop)]
 pub struct Accounts {
     opening: Vec<u64>,
     front: Vec<u32>,
     balances: Vec<u64>,
-    // how many values of each account are settled wholly, and how many entries of its next one
+    // for each account, how many of its values are wholly settled, and how many entries of its next
+    // value
     places: Vec<(u32, u8)>,
 }
 
@@ -40,7 +38,7 @@ impl Model for Accounts {
 }
 
 impl Accounts {
-    /// The accounts of a genesis, in which nothing is settled.
+    /// Returns the accounts of `genesis`. Nothing is settled.
     pub fn new(alloc: Global, genesis: &Genesis) -> Result<Self, AllocError>
         ensures { IfOk result (λ book. book ≡ fresh genesis.now.opening) }
     {
@@ -51,7 +49,7 @@ impl Accounts {
         Accounts::new_unsettled(alloc, opening)
     }
 
-    /// Accounts with these opening balances, in which nothing is settled.
+    /// Returns accounts with these opening balances. Nothing is settled.
     fn new_unsettled(alloc: Global, opening: Vec<u64>) -> Result<Self, AllocError>
         requires accounts { length opening.items < 2 ^ 16 }
         requires total { sum opening.items < 2 ^ 64 }
@@ -65,14 +63,14 @@ impl Accounts {
         })
     }
 
-    /// The number of accounts.
+    /// Returns the number of accounts.
     pub fn count(&self) -> u16
         ensures { result ≡ length self.now.opening }
     {
         self.opening.len() as u16
     }
 
-    /// How many entries of an account are settled.
+    /// Returns how many entries of `account` are settled.
     pub fn front(&self, account: u16) -> u32
         requires { account < length self.now.opening }
         ensures { result ≡ slice_index self.now.front account }
@@ -80,7 +78,7 @@ impl Accounts {
         self.front[account as usize]
     }
 
-    /// The balance of an account.
+    /// Returns the balance of `account`.
     pub fn balance(&self, account: u16) -> u64
         requires { account < length self.now.opening }
         ensures { result ≡ slice_index self.now.balances account }
@@ -88,7 +86,8 @@ impl Accounts {
         self.balances[account as usize]
     }
 
-    /// How many values of an account are settled wholly, and how many entries of its next one.
+    /// Returns how many values of `account` are wholly settled, and how many entries of its next
+    /// value.
     pub fn place(&self, account: u16) -> (u32, u8)
         requires { account < length self.now.opening }
         ensures { result ≡ place_of self.now.places account }
@@ -96,7 +95,7 @@ impl Accounts {
         self.places[account as usize]
     }
 
-    /// The entry that an account settles next, if its list has one.
+    /// Returns the entry that `account` settles next, if its list has one.
     fn next_entry<S: Source>(&self, source: &S, account: u16) -> Option<Entry>
         requires book { IsBook (S.lists source.now) self.now }
         requires account { account < length self.now.opening }
@@ -112,7 +111,7 @@ impl Accounts {
         }
     }
 
-    /// Where an account stands once it settled its next entry.
+    /// Returns the place of `account` after it settles its next entry.
     fn next_place<S: Source>(&self, source: &S, account: u16) -> (u32, u8)
         requires book { IsBook (S.lists source.now) self.now }
         requires account { account < length self.now.opening }
@@ -127,8 +126,8 @@ impl Accounts {
         place_after(source.at(account, place.0), place)
     }
 
-    /// Whether an account may settle its next entry: whether there is one and its balance covers
-    /// it.
+    /// Returns whether `account` may settle its next entry: whether there is one and the balance
+    /// covers it.
     pub fn may_step<S: Source>(&self, source: &S, account: u16) -> bool
         requires book { IsBook (S.lists source.now) self.now }
         requires account { account < length self.now.opening }
@@ -141,8 +140,7 @@ impl Accounts {
         }
     }
 
-    /// Settles the next entry of an account where its balance covers it, and says which entry that
-    /// was.
+    /// Settles the next entry of `account` if its balance covers it, and returns that entry.
     pub fn try_step<S: Source>(&mut self, source: &S, account: u16) -> Option<Entry>
         requires countable { AreCountable (S.lists source.now) self.old }
         requires book { IsBook (S.lists source.now) self.old }
@@ -162,7 +160,7 @@ impl Accounts {
         Some(entry)
     }
 
-    /// Moves an account's place past this entry, and the money that the entry pays.
+    /// Moves the place of `account` past `entry`, and moves the money that the entry pays.
     fn pass(&mut self, account: u16, entry: Entry, place: (u32, u8))
         requires account { account < length self.old.opening }
         requires payee { PayWithin (length self.old.opening) entry }
@@ -182,7 +180,7 @@ impl Accounts {
     }
 }
 
-/// Whether a balance covers what an entry takes.
+/// Returns whether `balance` covers the amount of `entry`.
 fn is_covered(entry: Entry, balance: u64) -> bool
     ensures { IsTrue result ↔ (amount_of entry ≤ balance) }
 {
@@ -192,7 +190,7 @@ fn is_covered(entry: Entry, balance: u64) -> bool
     }
 }
 
-/// Moves what an entry of this account pays.
+/// Moves what `entry` of `account` pays.
 fn transfer(balances: &mut [u64], account: u16, entry: Entry)
     requires account { account < length balances.old }
     requires payee { PayWithin (length balances.old) entry }

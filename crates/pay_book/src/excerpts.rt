@@ -1,5 +1,4 @@
-//! Entries of an account one after the other: those that settled from a number on, and those that
-//! wait.
+//! Consecutive entries of an account: those that settled from a number on, and those that wait.
 
 ghost use Rattle.std.specs.Prelude.{◌≡◌, ◌+◌, ◌<◌, ◌≤◌, ◌^◌, drop, take, length, map, IfOk};
 ghost use Rattle.pay_book.specs.Book.{IsBook};
@@ -9,32 +8,30 @@ ghost use Rattle.pay_book.specs.Payment.{count_in, entries_of};
 ghost use Rattle.pay_book.specs.Places.{place_in};
 ghost use Rattle.pay_book.specs.Statement.{numbered_entries_of};
 
-use crate::decode::{entries_in, entry_at};
 use crate::note::note_in;
-use crate::payment::Entry;
-use crate::place::place_after;
-use crate::settle::Settle;
+use crate::payment::{Entry, entries_in, entry_at, place_after};
+use crate::plain::Settle;
 use pay_channel::Source;
 use pay_frame::Bytes;
 use std::alloc::{AllocError, Global};
 use std::marker::Model;
 
-/// How many entries an excerpt shows at most.
+/// The most entries that an excerpt shows.
 pub const MOST_SHOWN: u32 = 1_000;
 
 /// An entry as an excerpt shows it.
 #[derive(Drop)]
 pub struct ShownEntry {
-    /// The number of its value among all of the account.
+    /// The number of the entry's value among all of the account.
     pub seq: u32,
-    /// What it pays, if it pays.
+    /// What the entry pays, if it pays.
     pub entry: Entry,
-    /// The text of its value, if that is a note.
+    /// The text of the entry's value, if that is a note.
     pub note: Option<Bytes>,
 }
 
 impl ShownEntry {
-    // An equal entry, unless memory is refused.
+    // Returns a copy of the entry.
     fn copy(&self, alloc: Global) -> Result<ShownEntry, AllocError>
         ensures { IfOk result (λ copy. copy ≡ self.now) }
     {
@@ -50,7 +47,7 @@ impl ShownEntry {
     }
 }
 
-/// Entries of an account one after the other, and the account's balance.
+/// Consecutive entries of an account, and the account's balance.
 #[derive(Drop)]
 pub struct Excerpt {
     first: u64,
@@ -74,14 +71,14 @@ impl Model for Excerpt {
 }
 
 impl Excerpt {
-    /// The number of its first entry among all of the account, counted from 0.
+    /// Returns the number of the first entry among all of the account, counted from 0.
     pub fn first(&self) -> u64
         ensures { result ≡ self.now.first }
     {
         self.first
     }
 
-    /// The entries.
+    /// Returns the entries.
     pub fn entries(&self) -> &[ShownEntry]
         ensures value { result.now ≡ self.now.entries }
         ensures numbered { self.now.first + length self.now.entries < 2 ^ 64 }
@@ -89,14 +86,14 @@ impl Excerpt {
         self.entries.as_slice()
     }
 
-    /// The account's balance, in the unit of the genesis's opening balances.
+    /// Returns the account's balance, in the unit of the genesis's opening balances.
     pub fn balance(&self) -> u64
         ensures { result ≡ self.now.balance }
     {
         self.balance
     }
 
-    /// An equal excerpt, unless memory is refused.
+    /// Returns a copy of the excerpt.
     pub fn copy(&self, alloc: Global) -> Result<Excerpt, AllocError>
         ensures { IfOk result (λ copy. copy ≡ self.now) }
     {
@@ -118,8 +115,8 @@ fn copy_entries(alloc: Global, entries: &[ShownEntry]) -> Result<Vec<ShownEntry>
     Ok(copy)
 }
 
-/// What settled of an account from a number on. It takes time for what is shown and for what
-/// settled after that, and none where nothing did.
+/// Returns what settled of `account` from the entry `from` on. It takes time for what is shown and
+/// for what settled after that, and none if nothing settled.
 // promise: statements
 pub fn settled_excerpt<S: Source, B: Settle>(
     alloc: Global,
@@ -147,7 +144,7 @@ pub fn settled_excerpt<S: Source, B: Settle>(
     })
 }
 
-/// What is listed of an account and isn't settled.
+/// Returns what is listed of `account` and isn't settled.
 // promise: statements
 pub fn waiting_excerpt<S: Source, B: Settle>(
     alloc: Global,
@@ -172,7 +169,8 @@ pub fn waiting_excerpt<S: Source, B: Settle>(
     })
 }
 
-/// At most `most` entries of an owner's list from a place on, which is before entry `number`.
+/// Returns up to `most` entries of the list of `owner`, from `place` on. The entry at that place is
+/// entry `number`.
 fn entries_from<S: Source>(
     alloc: Global,
     source: &S,
@@ -200,7 +198,7 @@ fn entries_from<S: Source>(
     Ok(entries)
 }
 
-// An entry of a value with this number.
+// Returns `entry` as an excerpt shows it, with the number and the note of its value.
 fn shown_entry(
     alloc: Global,
     seq: u32,
@@ -217,7 +215,8 @@ fn shown_entry(
     Ok(ShownEntry { seq, entry, note })
 }
 
-/// Where an earlier number falls in an owner's list, found from the place of a later one.
+/// Returns the place of the number `earlier` in the list of `owner`, found from the place of the
+/// later `number`.
 fn place_before<S: Source>(
     source: &S,
     owner: u16,

@@ -1,5 +1,4 @@
-//! The laws of settling. Each function does nothing: what it ensures is the law, which
-//! specs/Laws.antt spells out.
+//! The laws of settling. The functions do nothing: their contracts are the laws.
 
 ghost use Rattle.pay_book.specs.Laws.{ReachedFrontsJoin, StuckIsLargest, LargestIsStuck};
 ghost use Rattle.pay_book.specs.Laws.{LargestIsOne, LargestIsComputed, ReachedIsWithinLists};
@@ -9,217 +8,245 @@ ghost use Rattle.pay_book.specs.Laws.{EqualListsEqualBalances, EqualListsEqualBo
 ghost use Rattle.pay_book.specs.Laws.{FreshBookIsSettled, GrownListCanSettle, SameListsStaySettled};
 ghost use Rattle.pay_book.specs.Laws.{FewEntriesAreCountable, ShortListsAreCountable};
 ghost use Rattle.pay_book.specs.Laws.{GroupListsAreCountable, NotesAreRead, NotesAreVoid};
-ghost use Rattle.pay_book.specs.Laws.{ValuesHaveFewEntries};
-ghost use Rattle.pay_book.specs.Laws.{SettledBookExists, SettledBookIsOne, SettledIsLargest};
-ghost use Rattle.pay_book.specs.Laws.{BookKeepsTotal, NobodyOwesOnceSettled, AllGrowWithOneList};
-ghost use Rattle.pay_book.specs.Laws.{BookStays, SettledCountGrows, SettledEntriesGrow};
-ghost use Rattle.pay_book.specs.Laws.{SettledEntriesCompare, SettledEntriesWereAsked};
-ghost use Rattle.pay_book.specs.Laws.{ValuesCountTheirEntries, SingleEntries, WhollySettled};
-ghost use Rattle.pay_book.specs.Laws.{SettledBookTellsPlaces, SettledPlacesGrow};
-ghost use Rattle.pay_book.specs.Laws.{SettledValuesBeginEntries};
+ghost use Rattle.pay_book.specs.Laws.{ValuesHaveFewEntries, SettledBookExists, SettledBookIsOne};
+ghost use Rattle.pay_book.specs.Laws.{SettledIsLargest, BookKeepsTotal, NobodyOwesOnceSettled};
+ghost use Rattle.pay_book.specs.Laws.{AllGrowWithOneList, BookStays, SettledCountGrows};
+ghost use Rattle.pay_book.specs.Laws.{SettledEntriesGrow, SettledEntriesCompare};
+ghost use Rattle.pay_book.specs.Laws.{SettledEntriesWereAsked, ValuesCountTheirEntries};
+ghost use Rattle.pay_book.specs.Laws.{SingleEntries, WhollySettled, SettledBookTellsPlaces};
+ghost use Rattle.pay_book.specs.Laws.{SettledPlacesGrow, SettledValuesBeginEntries};
+ghost use Rattle.pay_book.specs.StepLaws.{StepSettlesOne, StepPaysWithin, OthersMayNoMore};
+ghost use Rattle.pay_book.specs.StepLaws.{StuckBookIsSettled, SettledAreListed};
 
-/// Two fronts that steps reach have a common one: the front that is as far as either at each
+/// States that two reached fronts have a common one: the front that is as far as either at each
 /// account is reached too.
 pub fn reached_fronts_join()
     ensures { ReachedFrontsJoin }
 {}
 
-/// No order of settling matters: wherever steps have led to a front at which no account may step,
-/// it is the largest.
+/// States that no order of settling matters. If steps have led to a front at which no account may
+/// step, it is the largest front.
 pub fn stuck_is_largest()
     ensures { StuckIsLargest }
 {}
 
-/// At the largest front no account may step.
+/// States that at the largest front no account may step.
 pub fn largest_is_stuck()
     ensures { LargestIsStuck }
 {}
 
-/// There is one largest front.
+/// States that there is one largest front.
 pub fn largest_is_one()
     ensures { LargestIsOne }
 {}
 
-/// There is a largest front, with a place for each account, and `largest_front` computes it.
+/// States that there is a largest front, with a place for each account, and that `largest_front`
+/// computes it.
 pub fn largest_is_computed()
     ensures { LargestIsComputed }
 {}
 
-/// A reached front is nowhere past the end of a list.
+/// States that a reached front is nowhere past a list's end.
 pub fn reached_is_within_lists()
     ensures { ReachedIsWithinLists }
 {}
 
-/// At a reached front nobody owes.
+/// States that at a reached front no balance is below zero.
 pub fn no_balance_below_zero()
     ensures { NoBalanceBelowZero }
 {}
 
-/// The balances at any front sum to what all accounts opened with.
+/// States that the balances at any front sum to what all accounts opened with.
 pub fn balances_sum_to_opening()
     ensures { BalancesSumToOpening }
 {}
 
-/// What was reached stays so when lists grow at their ends.
+/// States that a reached front stays reached when lists grow at their ends.
 pub fn reached_stays_reached()
     ensures { ReachedStaysReached }
 {}
 
-/// The largest front moves nowhere back when lists grow at their ends.
+/// States that the largest front never moves back when lists grow at their ends.
 pub fn largest_grows()
     ensures { LargestGrows }
 {}
 
-/// Where the accounts' lists are equal, so are the largest fronts.
+/// States that equal lists of the accounts have equal largest fronts.
 pub fn equal_lists_equal_largest()
     ensures { EqualListsEqualLargest }
 {}
 
-/// Where the accounts' lists are equal, so are the balances at a front.
+/// States that equal lists of the accounts have equal balances at a front.
 pub fn equal_lists_equal_balances()
     ensures { EqualListsEqualBalances }
 {}
 
-/// Books of the same opening balances that have settled all they can over equal lists are equal.
+/// States that ledgers with equal opening balances are equal if they have settled all they can over
+/// equal lists.
 pub fn equal_lists_equal_books()
     ensures { EqualListsEqualBooks }
 {}
 
-/// A new book is settled as long as nothing is listed.
+/// States that a new ledger is settled as long as nothing is listed.
 // promise: settling
 pub fn fresh_book_is_settled()
     ensures { FreshBookIsSettled }
 {}
 
-/// A settled book can settle again after one owner's list grew at its end.
+/// States that a settled ledger can settle again after one owner's list grew at its end.
 // promise: settling
 pub fn grown_list_can_settle()
     ensures { GrownListCanSettle }
 {}
 
-/// A settled book is settled as long as the lists of its accounts stay as they are.
+/// States that a settled ledger is settled as long as the lists of its accounts are unchanged.
 // promise: settling
 pub fn same_lists_stay_settled()
     ensures { SameListsStaySettled }
 {}
 
-/// Lists are countable where no account's has more than some number of entries, and the accounts
-/// times that number are fewer than 2^32.
+/// States when lists are countable. No account's list has more than some number of entries, and the
+/// accounts times that number are fewer than 2^32.
 pub fn few_entries_are_countable()
     ensures { FewEntriesAreCountable }
 {}
 
-/// The same for lists of a bounded number of values, each of which has few entries.
+/// States that lists of a bounded number of values are countable, if each value has few entries.
 pub fn short_lists_are_countable()
     ensures { ShortListsAreCountable }
 {}
 
-/// Every group's lists are countable: at most `MOST_MEMBERS` accounts have at most `SEQS` values
-/// each.
+/// States that every group's lists are countable: at most `MOST_MEMBERS` accounts have at most
+/// `SEQS` values each.
 // promise: settling
 pub fn group_lists_are_countable()
     ensures { GroupListsAreCountable }
 {}
 
-/// A value has no more entries than `most_entries`.
+/// States that a value has no more entries than `most_entries`.
 pub fn values_have_few_entries()
     ensures { ValuesHaveFewEntries }
 {}
 
-/// A note is one void entry in every list and group, so fronts and balances step over it.
+/// States that a note is one void entry in every list and group, so fronts and balances pass over
+/// it.
 // promise: notes
 pub fn notes_move_nothing()
     ensures { NotesAreVoid }
 {}
 
-/// What is read of a value is the text whose note it is; of any other value nothing is.
+/// States that the text read from a note is the text that it was made of. From any other value
+/// nothing is read.
 // promise: notes
 pub fn notes_are_read()
     ensures { NotesAreRead }
 {}
 
-/// Over any lists there is a book that has settled all it can, and `settled_book` computes it.
+/// States that over any lists there is a ledger that has settled all it can, and that
+/// `settled_book` computes it.
 // promise: one book
 pub fn settled_book_exists()
     ensures { SettledBookExists }
 {}
 
-/// There is no other: every book that has settled all it can is the computed one.
+/// States that every ledger that has settled all it can is the computed one.
 // promise: one book
 pub fn settled_book_is_one()
     ensures { SettledBookIsOne }
 {}
 
-/// The front of a book that has settled all it can is the largest.
+/// States that the front of a ledger that has settled all it can is the largest.
 pub fn settled_is_largest()
     ensures { SettledIsLargest }
 {}
 
-/// A book's balances sum to what all accounts opened with.
+/// States that a ledger's balances sum to what all accounts opened with.
 pub fn book_keeps_total()
     ensures { BookKeepsTotal }
 {}
 
-/// Where all that can be settled is, nobody owes.
+/// States that no balance is below zero in a ledger that has settled all it can.
 pub fn nobody_owes_once_settled()
     ensures { NobodyOwesOnceSettled }
 {}
 
-/// Where one owner's list grew at its end and no other changed, all accounts' lists grew at their
-/// ends.
+/// States that if one owner's list grew at its end and no other list changed, all accounts' lists
+/// grew at their ends.
 pub fn one_list_grows()
     ensures { AllGrowWithOneList }
 {}
 
-/// As lists grow at their ends, a book still stands at a reached front, with the balances there.
+/// States that a ledger stays at a reached front, with the balances there, while lists grow at
+/// their ends.
 pub fn book_stays()
     ensures { BookStays }
 {}
 
-/// As lists grow at their ends, no fewer entries are settled in all.
+/// States that no fewer entries are settled in all when lists grow at their ends.
 pub fn settled_count_grows()
     ensures { SettledCountGrows }
 {}
 
-/// As lists grow at their ends, an account's settled entries stay, and others follow them.
+/// States that an account's settled entries stay, and others follow them, when lists grow at their
+/// ends.
 pub fn settled_entries_grow()
     ensures { SettledEntriesGrow }
 {}
 
-/// Where of two lists of an account one is a prefix of the other, so it is with the entries that
-/// are settled of them, whatever the other accounts' lists are.
+/// States that if one of two lists of an account is a prefix of the other, so are the entries that
+/// are settled of them. The other accounts' lists make no difference.
 pub fn settled_entries_compare()
     ensures { SettledEntriesCompare }
 {}
 
-/// Where an account's list is a prefix of the values that its owner asked for, the settled entries
-/// are a prefix of the entries of these.
+/// States that the settled entries of an account come from the values that its owner submitted. If
+/// the account's list is a prefix of these values, the settled entries are a prefix of their
+/// entries.
 pub fn settled_entries_were_asked()
     ensures { SettledEntriesWereAsked }
 {}
 
-/// A value has as many entries as `count_in` says, whoever owns it.
+/// States that a value has as many entries as `count_in` says, whoever owns it.
 // promise: payments
 pub fn values_count_their_entries()
     ensures { ValuesCountTheirEntries }
 {}
 
-/// Where no listed value is of several payments, each is one entry, and fronts, balances and
-/// statements are what they were before there were such values.
+/// States that without values of several payments each value is one entry. Fronts, balances and
+/// statements are then what they were before such values existed.
 pub fn single_entries()
     ensures { SingleEntries }
 {}
 
-/// An account's place tells which of its values are settled wholly, and how far the next one is.
+/// States that an account's place says how many of its values are wholly settled, and how far the
+/// next value is.
 // promise: statements
 pub fn wholly_settled()
     ensures { WhollySettled }
 {}
 
-/// The values that are settled wholly: the book that has settled all it can tells how many they
-/// are, as lists grow they are no fewer, and their entries are settled.
+/// States which values are wholly settled. A ledger that has settled all it can says how many they
+/// are. As lists grow they are no fewer, and their entries are settled.
 pub fn settled_values()
     ensures told { SettledBookTellsPlaces }
     ensures grow { SettledPlacesGrow }
     ensures entries { SettledValuesBeginEntries }
+{}
+
+/// States that a step settles one more entry, which pays an existing account, if it pays. Another
+/// account may settle no more than before, unless the entry pays it.
+pub fn what_a_step_does()
+    ensures one_more { StepSettlesOne }
+    ensures payee { StepPaysWithin }
+    ensures others { OthersMayNoMore }
+{}
+
+/// States that a ledger has settled all it can if no account may step.
+pub fn stuck_book_is_settled()
+    ensures { StuckBookIsSettled }
+{}
+
+/// States that no more entries are settled than are listed.
+pub fn settled_are_listed()
+    ensures { SettledAreListed }
 {}

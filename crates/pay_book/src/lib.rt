@@ -1,8 +1,9 @@
-//! The book: payments settled one account at a time, each as soon as its owner's balance covers it.
+//! The ledger: payments settled one account at a time, each as soon as its owner's balance covers
+//! it.
 //!
-//! An account's entries settle in the order of its owner's list. Accounts wait for nobody but
-//! themselves: how the steps of several accounts are interleaved makes no difference to where a
-//! book ends ([`laws`]). [`Settle`] is what a book can do, over any source of lists.
+//! An account's entries settle in the order of its owner's list. An account waits for no other
+//! account: how the steps of several accounts are interleaved makes no difference to the final
+//! ledger ([`laws`]). [`Settle`] is what a ledger can do, over any source of lists.
 //!
 //! ```
 //! let mut book = PlainBook::new(alloc, &genesis)?;
@@ -12,34 +13,23 @@
 #![tactic(auto)]
 
 mod accounts;
-mod decode;
-mod encode;
 mod excerpts;
+pub mod laws;
 mod line;
-mod naming;
 mod note;
 mod payment;
-mod place;
 mod plain;
-mod settle;
+pub mod rows;
 mod statements;
-mod whole_statement;
 
 pub use accounts::Accounts;
-pub use decode::{decode_payment, entries_in, entry_at};
-pub use encode::{payment_value, payments_value, what_was_encoded};
 pub use excerpts::{Excerpt, MOST_SHOWN, ShownEntry, settled_excerpt, waiting_excerpt};
-pub use line::Line;
-pub use naming::payments_named;
+pub use line::{Line, Statement};
 pub use note::{MOST_NOTE, NOTE_VERSION, note_in, note_text, note_value};
 pub use payment::{
     Entry, MOST_PAYMENTS, PAIR_LENGTH, PAYMENT_LENGTH, PAYMENT_VERSION, Payment, SEVERAL_VERSION,
+    decode_payment, entries_in, entry_at, payment_value, payments_named, payments_value,
+    what_was_encoded,
 };
-pub use plain::PlainBook;
-pub use settle::Settle;
+pub use plain::{PlainBook, Settle};
 pub use statements::statement;
-pub use whole_statement::Statement;
-
-pub mod laws;
-pub mod rows;
-pub mod step_laws;

@@ -1,4 +1,4 @@
-//! Values that say something in their owner's name, and pay nothing.
+//! Values that contain a text in their owner's name, and pay nothing.
 
 ghost use Rattle.std.specs.Prelude.{◌≡◌, ◌&&◌, ℕ, List, IfOk, MatchOption, chars, false};
 ghost use Rattle.std.specs.Prelude.{length, nat_le, nat_lt, true, None, Some};
@@ -10,13 +10,13 @@ use pay_frame::Bytes;
 use std::alloc::{AllocError, Global};
 use std::str;
 
-/// The version of a value of a note, which is its first byte.
+/// The version of a note's value, which is its first byte.
 pub const NOTE_VERSION: u8 = 3;
 
-/// How many bytes the text of a note has at most.
+/// The most bytes that the text of a note has.
 pub const MOST_NOTE: usize = 1_000;
 
-/// The value that says this text.
+/// Returns the value of a note with this `text`.
 #[tactic(auto, unfolding(crate::specs::Notes::note_value))]
 // promise: notes
 pub fn note_value(alloc: Global, text: &[u8]) -> Result<Bytes, AllocError>
@@ -28,7 +28,7 @@ pub fn note_value(alloc: Global, text: &[u8]) -> Result<Bytes, AllocError>
     Ok(Bytes::new(value))
 }
 
-/// The text of a note, where the value is one.
+/// Returns the text of a note, if `value` is a note.
 #[tactic(auto, unfolding(crate::specs::Notes::note_of))]
 // promise: notes
 pub fn note_in(value: &[u8]) -> Option<&str>
@@ -43,7 +43,7 @@ pub fn note_in(value: &[u8]) -> Option<&str>
     }
 }
 
-/// The text that these bytes are, where a note may say it.
+/// Returns the text that `bytes` encode, if a note may contain it.
 #[tactic(auto, using(crate::proofs::NoteTexts::of_text, crate::proofs::NoteTexts::of_no_text))]
 // promise: notes
 pub fn note_text(bytes: &[u8]) -> Option<&str>
@@ -60,7 +60,7 @@ pub fn note_text(bytes: &[u8]) -> Option<&str>
     Some(text)
 }
 
-// Whether there are bytes, and no more than a note has.
+// Returns whether `bytes` isn't empty and has no more bytes than a note's text may have.
 fn has_length(bytes: &[u8]) -> bool
     ensures { result ≡ (nat_lt 0 (length bytes.now) && nat_le (length bytes.now) MOST_NOTE) }
 {

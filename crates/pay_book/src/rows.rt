@@ -1,5 +1,5 @@
-//! Worked examples, computed from the definitions. Each function does nothing: what it ensures is
-//! the example.
+//! Worked examples, computed from the definitions. Each function does nothing: its clauses are the
+//! example.
 
 ghost use Rattle.std.specs.Prelude.{◌≡◌, ◌-◌, ◌^◌, ℕ, List, [], ◌∷◌, Some, false, map, replicate};
 ghost use Rattle.std.specs.Prelude.{slice_index, true};
@@ -21,7 +21,8 @@ ghost use Rattle.pay_book.specs.Rows.{unsaid};
 ghost use Rattle.pay_book.specs.Excerpt.{settled_from, waiting_of};
 ghost use Rattle.pay_book.specs.Notes.{is_note_text, note_value};
 
-/// Values of owner 3 as entries: payments, and what is void for its bytes, its payee or its amount.
+/// States what some values of owner 3 mean as entries: payments, and values that are void for their
+/// bytes, payee or amount.
 pub fn values_decode()
     ensures payments { map (entry_of 4 3) (thirty_to_1 ∷ five_to_0 ∷ five_to_1 ∷ five_to_2 ∷ [])
         ≡ Entry.Pay 1 30 ∷ Entry.Pay 0 5 ∷ Entry.Pay 1 5 ∷ Entry.Pay 2 5 ∷ [] }
@@ -31,7 +32,7 @@ pub fn values_decode()
     ensures no_such_payee { entry_of 4 3 five_to_4 ≡ Entry.Void }
 {}
 
-/// One payment as a value, and two in one value.
+/// States how one payment is encoded as a value, and two payments in one value.
 pub fn values_encode()
     ensures one { payment_value 1 30 ≡ thirty_to_1 }
     ensures several { payments_value
@@ -39,8 +40,8 @@ pub fn values_encode()
         ≡ five_to_1_one_to_3 }
 {}
 
-/// Two empty accounts that pay each other settle nothing, though both payments together would leave
-/// nobody below zero. Once money comes to one of them, all three payments settle.
+/// States that two empty accounts that pay each other settle nothing, though both payments together
+/// would leave no balance below zero. When money comes to one of them, all three payments settle.
 pub fn circular_debts()
     ensures waiting { EndsAt (four_numbers 0 0 0 50)
         (four_lists (ten_to_1 ∷ []) (ten_to_0 ∷ []) [] [])
@@ -50,8 +51,8 @@ pub fn circular_debts()
         (four_numbers 1 1 0 1) (four_numbers 10 0 0 40) }
 {}
 
-/// A payment that its owner's balance doesn't cover holds the owner's next payment back, which the
-/// balance would cover.
+/// States that a payment which its owner's balance doesn't cover holds back the owner's next
+/// payment, even if the balance would cover that.
 pub fn uncovered_payment_waits()
     ensures waiting { EndsAt (four_numbers 100 0 0 50)
         (four_lists (one_fifty_to_1 ∷ ten_to_1 ∷ []) [] [] [])
@@ -61,7 +62,7 @@ pub fn uncovered_payment_waits()
         (four_numbers 1 0 0 1) (four_numbers 0 150 0 0) }
 {}
 
-/// A value that is no payment holds nothing back, however long it is.
+/// States that a value that is no payment holds nothing back, however long it is.
 pub fn void_entry_passes()
     ensures short { EndsAt (four_numbers 100 0 0 50)
         (four_lists [] [] [] (unknown_version ∷ five_to_1 ∷ []))
@@ -71,8 +72,8 @@ pub fn void_entry_passes()
         (four_numbers 0 0 0 2) (four_numbers 100 5 0 45) }
 {}
 
-/// The greatest amount that a value can name stays uncovered, and the greatest opening total can be
-/// paid whole.
+/// States that the greatest amount that a value can name stays uncovered, and that the greatest
+/// opening total can be paid whole.
 pub fn greatest_amounts()
     ensures uncovered { EndsAt (four_numbers 100 0 0 50)
         (four_lists (greatest_u64_to_1 ∷ one_to_1 ∷ []) [] [] [])
@@ -82,16 +83,17 @@ pub fn greatest_amounts()
         (four_numbers 1 0 0 0) (four_numbers 0 (2 ^ 63 - 1) 0 0) }
 {}
 
-/// Once the circular debts are settled, account 0's statement has its own payment first, then those
-/// to it by owner.
+/// States that after the circular debts are settled, account 0's statement has its own payment
+/// first, then the payments to it by owner.
 pub fn statement_after_circular_debts()
     ensures { statement_of 4 (four_lists (ten_to_1 ∷ []) (ten_to_0 ∷ []) [] (ten_to_0 ∷ []))
         (slice_index (four_numbers 1 1 0 1)) 0
         ≡ Line.Out 0 1 10 ∷ Line.In 1 0 10 ∷ Line.In 3 0 10 ∷ [] }
 {}
 
-/// Values of owner 3 that begin as several payments do: 1 to 32 of them, in their order, a void one
-/// among them; and what is void as a whole for its count or its length.
+/// States what values of owner 3 mean that begin like values of several payments. They have 1 to 32
+/// payments, in their order and with a void one among them, or are void as a whole for their count
+/// or length.
 pub fn several_decode()
     ensures payments { entries_in 4 3 four_payments
         ≡ Entry.Pay 1 30 ∷ Entry.Pay 2 50 ∷ Entry.Pay 1 40 ∷ Entry.Pay 2 20 ∷ [] }
@@ -103,7 +105,8 @@ pub fn several_decode()
     ensures shorter { entries_in 4 3 four_payments_and_less ≡ Entry.Void ∷ [] }
 {}
 
-/// Of four payments in one value the first two are covered; once more money comes, the third is.
+/// States that of four payments in one value the first two are covered, and that the third is
+/// covered when more money comes.
 pub fn four_payments_in_one()
     ensures half { EndsAt (four_numbers 100 0 0 50)
         (four_lists (four_payments ∷ []) [] [] [])
@@ -115,7 +118,8 @@ pub fn four_payments_in_one()
         (slice_index (four_numbers 3 1 0 0)) ≡ (0, 3) ∷ (1, 0) ∷ (0, 0) ∷ (0, 0) ∷ [] }
 {}
 
-/// A void payment among several holds nothing back, and no more does a value without any.
+/// States that a void payment among several holds nothing back, and neither does a value without
+/// payments.
 pub fn void_pair_passes()
     ensures pair { EndsAt (four_numbers 100 0 0 50)
         (four_lists [] [] [] (five_to_1_one_to_3 ∷ []))
@@ -125,7 +129,7 @@ pub fn void_pair_passes()
         (four_numbers 0 0 0 1) (four_numbers 100 0 0 50) }
 {}
 
-/// An account's statement has a line for each settled entry, under its value's number.
+/// States that an account's statement has a line for each settled entry, under its value's number.
 pub fn statement_of_several()
     ensures payer { statement_of 4 (four_lists (four_payments ∷ []) (thirty_to_0 ∷ []) [] [])
         (slice_index (four_numbers 3 1 0 0)) 0
@@ -135,8 +139,8 @@ pub fn statement_of_several()
         ≡ Line.Out 0 0 30 ∷ Line.In 0 0 30 ∷ Line.In 0 0 40 ∷ [] }
 {}
 
-/// An account's settled entries from a number on, under their values' numbers, and what waits: of
-/// four payments in one value three are settled, and a fifth comes in another value.
+/// States an account's settled entries from a number on, under their values' numbers, and what
+/// waits. Of four payments in one value three are settled, and a fifth comes in another value.
 pub fn excerpts_of_several()
     ensures all { settled_from three_of_five five_listed 0 0
         ≡ unsaid 0 (Entry.Pay 1 30) ∷ unsaid 0 (Entry.Pay 2 50)
@@ -152,7 +156,8 @@ pub fn excerpts_of_several()
     ensures none_waits { waiting_of three_of_five five_listed 1 ≡ [] }
 {}
 
-/// The text of a note is shown with its entry, which is void; of what no note may say nothing is.
+/// States that the text of a note is shown with its entry, which is void. For a text that no note
+/// may contain nothing is shown.
 pub fn excerpt_of_a_note()
     ensures value { note_value (72 ∷ 105 ∷ []) ≡ 3 ∷ 72 ∷ 105 ∷ [] }
     ensures said { (text : List ℕ) → is_note_text text ≡ true

@@ -3,20 +3,18 @@
 ghost use Rattle.std.specs.Prelude.{◌≡◌, ◌+◌, ◌<◌, ◌≤◌, ◌++◌, map, take, length, slice_index, IfOk};
 ghost use Rattle.std.specs.Prelude.{OnOk};
 ghost use Rattle.std.specs.List.{filter_map};
-ghost use Rattle.pay_book.specs.Payment.{entries_of};
 ghost use Rattle.pay_book.specs.Book.{IsBook};
+ghost use Rattle.pay_book.specs.Payment.{entries_of};
 ghost use Rattle.pay_book.specs.Statement.{numbered_entries_of, own_line, incoming_line};
 ghost use Rattle.pay_book.specs.Statement.{statement_of};
 
-use crate::decode::entry_at;
 use crate::line::Line;
-use crate::payment::Entry;
-use crate::place::place_after;
-use crate::settle::Settle;
+use crate::payment::{Entry, entry_at, place_after};
+use crate::plain::Settle;
 use pay_channel::Source;
 use std::alloc::{AllocError, Global};
 
-/// What settled on an account: its own entries, then the payments to it, by owner.
+/// Returns what settled on `account`: its own entries, then the payments to it, by owner.
 // promise: statements
 pub fn statement<S: Source, B: Settle>(
     alloc: Global,
@@ -47,7 +45,7 @@ pub fn statement<S: Source, B: Settle>(
     Ok(lines)
 }
 
-/// Appends the lines of the account's own entries before this front.
+/// Appends the lines of the account's own entries before `front`.
 fn push_own<S: Source>(
     lines: &mut Vec<Line>,
     source: &S,
@@ -70,7 +68,7 @@ fn push_own<S: Source>(
     Ok(())
 }
 
-/// Appends the lines of the payments to the account among this owner's entries before this front.
+/// Appends the lines of the payments to `account` among the entries of `owner` before `front`.
 fn push_incoming<S: Source>(
     lines: &mut Vec<Line>,
     source: &S,
@@ -96,7 +94,7 @@ fn push_incoming<S: Source>(
     Ok(())
 }
 
-/// How an account's own entry reads.
+/// Returns the line of an account's own entry.
 fn own_line(seq: u32, entry: Entry) -> Line
     ensures { result ≡ own_line seq entry }
 {
@@ -106,7 +104,7 @@ fn own_line(seq: u32, entry: Entry) -> Line
     }
 }
 
-/// How an owner's entry reads on another account's statement, if it pays to that account.
+/// Returns the line of an `owner`'s entry on another account's statement, if it pays to `account`.
 fn incoming_line(account: u16, owner: u16, seq: u32, entry: Entry) -> Option<Line>
     ensures { result ≡ incoming_line account owner seq entry }
 {

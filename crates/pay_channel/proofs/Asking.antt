@@ -1,14 +1,14 @@
 -- A vote for a value of one's own, and one ask more.
 use Rattle.std.proofs.Common.{◌≡◌, ℕ, ◌+◌, List, [], ◌∷◌, ◌++◌, Some, Result, Ok, Err, refl, sym, subst}
 use Rattle.std.specs.Result.{OnOk}
-use Rattle.pay_frame.specs.declared.kind.Kind.TheVariants.{Send}
+use Rattle.pay_frame.specs.declared.body.Kind.TheVariants.{Send}
 use Rattle.pay_frame.specs.Frame.{BodyFields}
 use Rattle.pay_echo.specs.Broadcast as one
 use Rattle.pay_channel.specs.Source.{GrowsOnly}
 use Rattle.pay_channel.specs.History.{Event, Ask, body_of}
 use Rattle.pay_channel.specs.State.{State, IsSound, IsStateBy, meaning_at, delivered_value_at, channel_lists}
 use Rattle.pay_channel.specs.Applied.{TakesVote, IsToldOf, Takes}
-use Rattle.pay_channel.specs.declared.applied.Applied.{Applied}
+use Rattle.pay_channel.specs.declared.channel.Applied.{Applied}
 use Rattle.pay_channel.proofs.Follow.{IsStateBy-push}
 
 -- a state with another count of asks

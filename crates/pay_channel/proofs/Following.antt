@@ -7,7 +7,7 @@ use Rattle.pay_channel.specs.State.{State, IsStateBy, meaning_at, delivered_valu
 use Rattle.pay_channel.specs.Applied.{IsToldOf}
 use Rattle.pay_channel.specs.Answer.{IsAnswerAt}
 use Rattle.pay_channel.specs.FollowLaws.{ChannelFollows, UnchangedFollows, ValuesFollow, ListsFollow, AnswersFollow, FollowersAreAlike}
-use Rattle.pay_channel.specs.declared.applied.Applied.{Applied}
+use Rattle.pay_channel.specs.declared.channel.Applied.{Applied}
 use Rattle.pay_channel.proofs.Follow.{IsStateBy-push, IsStateBy-before, lists-IsStateBy}
 
 pub channel_follows : ChannelFollows

@@ -1,8 +1,8 @@
 -- Which events are votes in one broadcast.
 use Rattle.std.proofs.Common.{◌≡◌, ◌≢◌, ℕ, zero, suc, Bool, true, false, cond, ◌&&◌, eqb, List, Option, None, Some, option_to_list, Contains, refl, sym, ap, ◌∙◌, subst, arith, eqb-true, eq-eqb}
 use Rattle.std.proofs.lemmas.Bool.{cond-true, cases_Bool, and_parts, and_from}
-use Rattle.pay_frame.specs.declared.kind.Kind.{Kind}
-use Rattle.pay_frame.specs.declared.kind.Kind.TheVariants.{Send, Echo, Ready, Want}
+use Rattle.pay_frame.specs.declared.body.Kind.{Kind}
+use Rattle.pay_frame.specs.declared.body.Kind.TheVariants.{Send, Echo, Ready, Want}
 use Rattle.pay_echo.specs.Broadcast as one
 use Rattle.pay_echo.specs.Broadcast.{Vote}
 use Rattle.pay_channel.specs.History.{Event, Ask, From, asks, vote_of, is_about, votes_in, votes, body_of}

@@ -5,19 +5,19 @@ use Rattle.std.specs.Bool.{then_some}
 use Rattle.std.specs.Result.{OnErr}
 use Rattle.std.proofs.lemmas.List.{get_or_default}
 use Rattle.std.proofs.lemmas.Bool.{cases_Bool, and_right}
-use Rattle.pay_frame.specs.declared.kind.Kind.{Kind}
-use Rattle.pay_frame.specs.declared.kind.Kind.TheVariants.{Echo, Ready}
+use Rattle.pay_frame.specs.declared.body.Kind.{Kind}
+use Rattle.pay_frame.specs.declared.body.Kind.TheVariants.{Echo, Ready}
 use Rattle.pay_frame.specs.Frame.{BodyFields}
 use Rattle.pay_echo.specs.Broadcast.{Group, Vote, value_of}
 use Rattle.pay_echo.specs.Laws.{DeliveredStays, EchoedByOneMore, ReadiedByOneMore, SentIsItsValue}
 use Rattle.pay_echo.specs.Meaning.{Meaning, meaning_of}
 use Rattle.pay_echo.specs.Moves.{IsMoves}
-use Rattle.pay_echo.specs.declared.moves.Moves.{Moves}
+use Rattle.pay_echo.specs.declared.instance.Moves.{Moves}
 use Rattle.pay_channel.specs.Source.{GrowsOnly}
 use Rattle.pay_channel.specs.History.{body_of, seqs, known_from, listed_values}
 use Rattle.pay_channel.specs.State.{State, Slot, IsSound, meaning_in, meaning_at, delivered_value_at, channel_lists}
 use Rattle.pay_channel.specs.Hearing.{HearsVote, IsOutgoing}
-use Rattle.pay_channel.specs.declared.outgoing.Outgoing.{Outgoing}
+use Rattle.pay_channel.specs.declared.channel.Outgoing.{Outgoing}
 use Rattle.pay_channel.specs.Applied.{bodies_said, TakesVote, IsToldOf, IsAsBefore}
 use Rattle.pay_channel.proofs.Grown.{known_from-short, IsSound-same, lists-grow, lists-grown, IsSound-voted}
 use Rattle.pay_channel.proofs.Said.{told, bodies_said-of_vote}

@@ -1,20 +1,20 @@
--- The values that the member itself broadcast (what the user of the channel hands to it in Cachin,
--- Guerraoui, Rodrigues, chapter 3), and SENDs as they stand in a sent list.
+-- The values that the member itself broadcast, and SENDs as they stand in a sent list. These values
+-- are what the user hands to the channel in Cachin, Guerraoui, Rodrigues, chapter 3.
 use Rattle.std.specs.Prelude.{ℕ, Bool, true, false, List, map, Option, Some, None}
 use Rattle.std.specs.List.{filter, filter_map, enumerate_from}
-use Rattle.pay_frame.specs.declared.kind.Kind.{Kind}
-use Rattle.pay_frame.specs.declared.kind.Kind.TheVariants.{Send, Echo, Ready, Want}
+use Rattle.pay_frame.specs.declared.body.Kind.{Kind}
+use Rattle.pay_frame.specs.declared.body.Kind.TheVariants.{Send, Echo, Ready, Want}
 use Rattle.pay_frame.specs.Frame.{BodyFields}
 use Rattle.pay_channel.specs.History.{Event, Ask, From, body_of}
 
--- the value that an event broadcasts, if it is an ask
+-- the value that an event broadcasts, if the event submits a value
 abbrev pub ask_of : Event → Option (List ℕ)
 ask_of (Ask v) = Some v
 ask_of (From p body) = None
 
 -- The values that the member broadcast, in order. A value's number is its place, counted from 0.
--- page: `asked_values`, `taken_bodies`, `next`: the values that the member was asked for, by their
---   numbers; the bodies taken from one other member, in order, and how many: the book's links
+-- page: `asked_values`, `taken_bodies`, `next`: the values that the member submitted, by their
+--   numbers; the bodies accepted from another member, in order, and their count: the book's links
 unfoldable pub asked_values : List Event → List (List ℕ)
 asked_values history = filter_map ask_of history
 

@@ -1,15 +1,15 @@
--- What one vote does among a member's broadcasts, and the bodies that are due by it.
+-- What a vote does among a member's broadcasts, and the bodies to send after it.
 use Rattle.std.specs.Prelude.{◌≡◌, ℕ, false, ◌&&◌, ◌==◌, List}
 use Rattle.std.specs.Bool.{then_some}
-use Rattle.pay_frame.specs.declared.kind.Kind.TheVariants.{Echo, Ready}
+use Rattle.pay_frame.specs.declared.body.Kind.TheVariants.{Echo, Ready}
 use Rattle.pay_echo.specs.Broadcast.{Group, Vote, value_of}
 use Rattle.pay_echo.specs.Meaning.{Meaning, Sees}
 use Rattle.pay_echo.specs.Moves.{IsMoves}
 use Rattle.pay_channel.specs.History.{body_of}
 use Rattle.pay_channel.specs.State.{Slot, meaning_in}
-use Rattle.pay_channel.specs.declared.outgoing.Outgoing.{Outgoing}
+use Rattle.pay_channel.specs.declared.channel.Outgoing.{Outgoing}
 
--- the broadcast s of account a has one vote more, the others are as they were
+-- the broadcast s of account a has one more vote, the others are unchanged
 pub record HearsVote (g : Group) (old new : List Slot) (a s : ℕ) (x : Vote) : Type 0 where
   pub here : Sees (meaning_in g old a s) (meaning_in g new a s) x
   pub others : (b t : ℕ) → (a == b && s == t) ≡ false → meaning_in g new b t ≡ meaning_in g old b t

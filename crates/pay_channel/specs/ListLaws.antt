@@ -1,5 +1,4 @@
--- What holds of deliveries and of the accounts' lists, as statements. Each is proved as a public
--- law.
+-- Statements about deliveries and the accounts' lists. Each is proved as a public law.
 use Rattle.std.specs.Prelude.{◌≡◌, ◌≢◌, ℕ, ◌<◌, ◌≤◌, ◌↔◌, ◌⊎◌, List, [], ◌∷◌, ◌++◌, length}
 use Rattle.std.specs.Prelude.{slice_get, Contains, Option, Some, None}
 use Rattle.pay_echo.specs.Broadcast.{Group, delivered}
@@ -24,12 +23,12 @@ DeliveryStays =
     (g : Group) (history more : List Event) (a s : ℕ) (v : List ℕ)
     → delivered_at g history a s ≡ Some v → delivered_at g (history ++ more) a s ≡ Some v
 
--- the value that an event brings
+-- the value of an event
 abbrev pub value_of_event : Event → List ℕ
 value_of_event (Ask v) = v
 value_of_event (From p body) = body.value
 
--- what is delivered came by an event: it was asked for, or a body had it
+-- what is delivered came by an event: it was submitted, or a body had it
 abbrev pub DeliveredCame : Type 0
 DeliveredCame =
     (g : Group) (history : List Event) (a s : ℕ) (v : List ℕ) → delivered_at g history a s ≡ Some v
@@ -41,8 +40,8 @@ DeliveredCame =
 abbrev pub AreKnown : (ℕ → Option (List ℕ)) → ℕ → Type 0
 AreKnown value_at n = (s : ℕ) → s < n → value_at s ≢ None
 
--- Whatever the values are: place k is there exactly if all numbers up to k have a value, and has
--- that of number k.
+-- Whatever the values are, place k exists exactly if all numbers up to k have a value, and has the
+-- value of number k.
 abbrev pub PlaceIsValue : Type 0
 PlaceIsValue =
     (g : Group) (value_at : ℕ → ℕ → Option (List ℕ)) (a k : ℕ) (v : List ℕ)
@@ -61,18 +60,18 @@ ListedIsDelivered =
     (g : Group) (history : List Event) (a k : ℕ) (v : List ℕ)
     → slice_get (list_of g history a) k ≡ Some v → delivered_at g history a k ≡ Some v
 
--- ---- where a list ends
+-- ---- the end of a list
 
 abbrev pub ListIsShort : Type 0
 ListIsShort = (g : Group) (history : List Event) (a : ℕ) → length (list_of g history a) ≤ seqs
 
--- it has n values exactly where the first n numbers are delivered
+-- the list has n values exactly if the first n numbers are delivered
 abbrev pub ListReaches : Type 0
 ListReaches =
     (g : Group) (history : List Event) (a n : ℕ) → a < g.members → n ≤ seqs
     → (n ≤ length (list_of g history a)) ↔ AreKnown (delivered_at g history a) n
 
--- the number after it has no value
+-- the number after the list has no value
 abbrev pub ListEnds : Type 0
 ListEnds =
     (g : Group) (history : List Event) (a : ℕ) → a < g.members → length (list_of g history a) < seqs
@@ -87,14 +86,14 @@ EmptyOfNobody =
 
 -- ---- a list and given values
 
--- what is delivered are these values, each under its place: they are the list
+-- if these values are what is delivered, each under its place, they are the list
 abbrev pub ListIsValues : Type 0
 ListIsValues =
     (g : Group) (history : List Event) (a : ℕ) (values : List (List ℕ)) → a < g.members
     → length values ≤ seqs
     → ((s : ℕ) → delivered_at g history a s ≡ slice_get values s) → list_of g history a ≡ values
 
--- nothing else is delivered: the list is a prefix of them
+-- if nothing else is delivered, the list is a prefix of them
 abbrev pub ListBeginsValues : Type 0
 ListBeginsValues =
     (g : Group) (history : List Event) (a : ℕ) (values : List (List ℕ))
@@ -109,7 +108,7 @@ ListsAlike =
     → ((s : ℕ) → delivered_at g one a s ≡ delivered_at h other a s)
     → list_of g one a ≡ list_of h other a
 
--- where both deliver they agree: one is a prefix of the other
+-- if the members agree on what both deliver, one list is a prefix of the other
 abbrev pub ListsCompare : Type 0
 ListsCompare =
     (g h : Group) (one other : List Event) (a : ℕ)
@@ -125,7 +124,7 @@ ListsGrow =
     (g : Group) (history more : List Event) (a : ℕ)
     → IsPrefix (list_of g history a) (list_of g (history ++ more) a)
 
--- by one event only the list of the account that it is about
+-- an event lengthens only the list of the account that it is about
 abbrev pub OneListGrows : Type 0
 OneListGrows =
     (g : Group) (history : List Event) (e : Event)

@@ -1,10 +1,10 @@
--- What holds of the sent list, as statements. Each is proved as a public law.
+-- Statements about the sent list. Each is proved as a public law.
 use Rattle.std.specs.Prelude.{◌≡◌, ◌≢◌, ℕ, ◌<◌, ◌↔◌, Bool, true, false, ◌&&◌, ◌==◌, List, [], ◌∷◌}
 use Rattle.std.specs.Prelude.{◌++◌, map, length, slice_get, Some, All, Contains}
 use Rattle.std.specs.List.{filter}
 use Rattle.std.specs.Option.{option_to_list}
-use Rattle.pay_frame.specs.declared.kind.Kind.{Kind}
-use Rattle.pay_frame.specs.declared.kind.Kind.TheVariants.{Send, Echo, Ready, Want}
+use Rattle.pay_frame.specs.declared.body.Kind.{Kind}
+use Rattle.pay_frame.specs.declared.body.Kind.TheVariants.{Send, Echo, Ready, Want}
 use Rattle.pay_frame.specs.Frame.{BodyFields}
 use Rattle.pay_echo.specs.Broadcast.{Group, echoed, readied}
 use Rattle.pay_channel.specs.Prefix.{IsPrefix}
@@ -14,18 +14,18 @@ use Rattle.pay_channel.specs.Asked.{ask_of, asked_values, is_send_kind, sends_in
 abbrev pub NothingSentAtFirst : Type 0
 NothingSentAtFirst = (g : Group) → out g [] ≡ []
 
--- one event more
+-- one more event
 abbrev pub OutByOneMore : Type 0
 OutByOneMore =
     (g : Group) (history : List Event) (e : Event)
     → out g (history ++ e ∷ []) ≡ out g history ++ says g history e
 
--- the sent list grows at its end alone
+-- the sent list grows only at its end
 abbrev pub OutGrows : Type 0
 OutGrows =
     (g : Group) (history more : List Event) → IsPrefix (out g history) (out g (history ++ more))
 
--- ---- what stands in the sent list about one broadcast
+-- ---- the bodies in the sent list about one broadcast
 
 abbrev pub is_echo : Kind → Bool
 is_echo Send = false
@@ -43,21 +43,21 @@ is_ready_kind Want = false
 abbrev pub is_said : (Kind → Bool) → ℕ → ℕ → BodyFields → Bool
 is_said of_kind a s body = of_kind body.kind && (body.owner == a && body.seq == s)
 
--- one ECHO exactly where a value is echoed, with that value
+-- one ECHO exactly if a value is echoed, with that value
 abbrev pub EchoInOut : Type 0
 EchoInOut =
     (g : Group) (history : List Event) (a s : ℕ)
     → filter (is_said is_echo a s) (out g history)
     ≡ map (body_of Echo a s) (option_to_list (echoed (votes g.own a s history)))
 
--- one READY exactly where a value is readied, with that value
+-- one READY exactly if a value is readied, with that value
 abbrev pub ReadyInOut : Type 0
 ReadyInOut =
     (g : Group) (history : List Event) (a s : ℕ)
     → filter (is_said is_ready_kind a s) (out g history)
     ≡ map (body_of Ready a s) (option_to_list (readied g (votes g.own a s history)))
 
--- the same as membership: what stands there is what was echoed and readied
+-- the statement as membership: the bodies there are what was echoed and readied
 abbrev pub EchoIsSaid : Type 0
 EchoIsSaid =
     (g : Group) (history : List Event) (a s : ℕ) (v : List ℕ)
@@ -75,7 +75,7 @@ SentMayCome =
     (g h : Group) (history : List Event) → g.own < g.members → h.members ≡ g.members → g.own ≢ h.own
     → All (IsEvent g) history → All (λ body. IsEvent h (From g.own body)) (out g history)
 
--- ---- the SENDs of the sent list are the values asked for
+-- ---- the SENDs of the sent list are the submitted values
 
 abbrev pub NothingAskedAtFirst : Type 0
 NothingAskedAtFirst = asked_values [] ≡ []
@@ -98,23 +98,23 @@ SendsAreAsks =
     (g : Group) (history : List Event)
     → sends_in (out g history) ≡ sends_of g.own (asked_values history)
 
--- one SEND about a number of one's own exactly where a value was asked for under it, with that
--- value
+-- one SEND about a number of the member's own exactly if a value was submitted under that number,
+-- with that value
 abbrev pub SendInOut : Type 0
 SendInOut =
     (g : Group) (history : List Event) (s : ℕ)
     → filter (is_said is_send_kind g.own s) (out g history)
     ≡ map (body_of Send g.own s) (option_to_list (slice_get (asked_values history) s))
 
--- a SEND stands there exactly if it is about one's own account, with the value asked for under its
--- number
+-- a SEND stands there exactly if it is about the member's own account, with the value submitted
+-- under its number
 abbrev pub SentIsAsked : Type 0
 SentIsAsked =
     (g : Group) (history : List Event) (a s : ℕ) (v : List ℕ)
     → Contains (out g history) (body_of Send a s v)
     ↔ ((a ≡ g.own) × (slice_get (asked_values history) s ≡ Some v))
 
--- in one's own broadcasts the values asked for are echoed, whatever the others send
+-- in the member's own broadcasts the submitted values are echoed, whatever the others send
 abbrev pub OwnEchoIsAsk : Type 0
 OwnEchoIsAsk =
     (g : Group) (history : List Event) (s : ℕ) → All (IsEvent g) history

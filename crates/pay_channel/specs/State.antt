@@ -7,7 +7,7 @@ use Rattle.pay_frame.specs.declared.limits.TheConstants.{MOST_MEMBERS}
 use Rattle.pay_echo.specs.Meaning.{Meaning, meaning_of}
 use Rattle.pay_channel.specs.History.{Event, asks, votes, out, listed_values}
 
--- one broadcast of which something is known
+-- a broadcast about which something is known
 pub record Slot : Type 0 where
   pub owner : ℕ
   pub seq : ℕ
@@ -19,7 +19,7 @@ pub record State : Type 0 where
   pub slots : List Slot
   pub sent : List BodyFields
 
--- what is known of the broadcast s of account a; where it has no slot, no vote came
+-- what is known about the broadcast s of account a; without a slot no vote came
 abbrev pub meaning_in : Group → List Slot → ℕ → ℕ → Meaning
 meaning_in g [] a s = meaning_of g []
 meaning_in g (x ∷ xs) a s = if x.owner == a && x.seq == s then x.meaning else meaning_in g xs a s
@@ -40,8 +40,8 @@ pub record IsStateBy (c : State) (history : List Event) : Type 0 where
   pub asks : c.asks ≡ asks history
   pub sent : c.sent ≡ out c.group history
 
--- What is true of every channel. Each broadcast's meaning is that of some votes, and the numbers
--- kept beside the state are the lengths of the members' lists.
+-- What holds of every channel. Each broadcast's meaning is that of some votes, and the numbers kept
+-- beside the state are the lengths of the members' lists.
 pub record IsSound (c : State) (lengths : List ℕ) : Type 0 where
   pub few : c.group.members ≤ MOST_MEMBERS
   pub own : c.group.own < c.group.members

@@ -1,4 +1,4 @@
--- What a member took from one other member: the part of the history that came over one link.
+-- What a member accepted from another member: the part of the history that came over one link.
 use Rattle.std.specs.Prelude.{ℕ, Bool, false, ◌==◌, if◌then◌else◌, List, length, Option, Some, None}
 use Rattle.std.specs.List.{filter_map}
 use Rattle.pay_frame.specs.Frame.{BodyFields}
@@ -13,10 +13,10 @@ abbrev pub body_from : ℕ → Event → Option BodyFields
 body_from p (Ask v) = None
 body_from p (From q body) = if q == p then Some body else None
 
--- The bodies taken from p, in order. A body's number on the link is its place, counted from 0.
+-- The bodies accepted from p, in order. A body's number on the link is its place, counted from 0.
 unfoldable pub taken_bodies : ℕ → List Event → List BodyFields
 taken_bodies p history = filter_map (body_from p) history
 
--- the number that the next body from p has
+-- the number of the next body from p
 abbrev pub next : ℕ → List Event → ℕ
 next p history = length (taken_bodies p history)

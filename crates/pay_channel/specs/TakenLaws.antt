@@ -1,5 +1,4 @@
--- What holds of the bodies taken from one other member, as statements. Each is proved as a public
--- law.
+-- Statements about the bodies accepted from another member. Each is proved as a public law.
 use Rattle.std.specs.Prelude.{◌≡◌, ℕ, ◌+◌, ◌↔◌, false, if◌then◌else◌, List, [], ◌∷◌, ◌++◌, Contains}
 use Rattle.std.specs.List.{count_by}
 use Rattle.std.specs.Option.{option_to_list}
@@ -10,7 +9,7 @@ use Rattle.pay_channel.specs.Taken.{is_from, body_from, taken_bodies, next}
 abbrev pub NothingTakenAtFirst : Type 0
 NothingTakenAtFirst = (p : ℕ) → taken_bodies p [] ≡ []
 
--- one event more: its body, exactly where it came from p
+-- one more event: its body, exactly if it came from p
 abbrev pub TakenByOneMore : Type 0
 TakenByOneMore =
     (p : ℕ) (history : List Event) (e : Event)

@@ -1,31 +1,86 @@
-ghost use Rattle.std.specs.Prelude.{true, ◌≡◌, ◌≢◌, ◌≤◌, ◌<◌, ◌+◌, ◌++◌, Some, List, [], ◌∷◌};
-ghost use Rattle.std.specs.Prelude.{length, slice_get, replicate, vec_len, vec_capacity, IfOk};
+//! A member's side of the broadcast channel: its instances, its sent list, and each owner's list.
+
+ghost use Rattle.std.specs.Prelude.{◌≡◌, ◌<◌, ℕ, List, length, slice_get, true, ◌≢◌, ◌≤◌, ◌+◌};
+ghost use Rattle.std.specs.Prelude.{◌++◌, Some, [], ◌∷◌, replicate, vec_len, vec_capacity, IfOk};
 ghost use Rattle.std.specs.Prelude.{IfSome, OnOk, OnErr};
 ghost use Rattle.std.specs.Option.{option_copied, option_map, option_to_list};
-ghost use Rattle.pay_echo.specs.Broadcast.{IsForeign, value_of};
-ghost use Rattle.pay_echo.specs.Votes.{vote_of_ref};
-ghost use Rattle.pay_channel.specs.Source.{GrowsOnly};
-ghost use Rattle.pay_channel.specs.History.{Event, Ask, From, IsEvent, is_ask, owner_of};
-ghost use Rattle.pay_channel.specs.History.{vote_of as event_vote, seqs};
-ghost use Rattle.pay_channel.specs.State.{State, IsStateBy, meaning_at, delivered_value_at};
-ghost use Rattle.pay_channel.specs.State.{channel_lists};
 ghost use Rattle.pay_channel.specs.Applied.{TakesVote, IsToldOf, Takes, IsApplied, IsAsBefore};
 ghost use Rattle.pay_channel.specs.Applied.{event_of_ref};
+ghost use Rattle.pay_channel.specs.History.{Event, Ask, From, IsEvent, is_ask, owner_of};
+ghost use Rattle.pay_channel.specs.History.{vote_of as event_vote, seqs};
 ghost use Rattle.pay_channel.specs.Lies.{is_lie_to};
+ghost use Rattle.pay_channel.specs.Source.{GrowsOnly};
+ghost use Rattle.pay_channel.specs.State.{State, IsStateBy, meaning_at, delivered_value_at};
+ghost use Rattle.pay_channel.specs.State.{channel_lists};
+ghost use Rattle.pay_echo.specs.Broadcast.{IsForeign, value_of};
+ghost use Rattle.pay_echo.specs.Votes.{vote_of_ref};
 
-use crate::applied::Applied;
-use crate::event::EventRef;
 use crate::instances::{Instances, body_of};
-use crate::outgoing::Outgoing;
-use crate::source::Source;
 use pay_echo::laws::{known_stays, nothing_known_at_first, one_vote_more};
-use pay_echo::{Group, Instance, VoteRef};
+use pay_echo::{Group, Instance, Moves, VoteRef};
 use pay_frame::{Body, GREATEST_VALUE, Kind, MOST_MEMBERS, SharedBody};
 use std::alloc::{AllocError, Global};
 use std::marker::Model;
 
-/// One member's broadcasts: an instance for each owner and number of which something is known, the
-/// list of all that the member sent to all, and how many values stand in each owner's list.
+/// An event of a channel: a value that its member broadcasts, or a body that another member sent.
+#[derive(Clone, Copy)]
+pub enum EventRef<'a> {
+    /// The member broadcasts this value.
+    Ask(&'a [u8]),
+    /// This body came from another member.
+    From(u16, &'a Body),
+}
+
+/// What a vote made known in its broadcast, and the bodies to send after it.
+#[derive(Drop)]
+pub struct Outgoing {
+    pub moves: Moves,
+    pub echo: Option<SharedBody>,
+    pub ready: Option<SharedBody>,
+}
+
+/// What an event made known: whether the member sends ECHO, sends READY and delivers, and by how
+/// many places the list of the event's owner grew.
+#[derive(Clone, Copy, Debug, PartialEq, Eq)]
+pub struct Applied {
+    pub echo: bool,
+    pub ready: bool,
+    pub deliver: bool,
+    pub grown: u32,
+}
+
+impl Applied {
+    /// Nothing became known.
+    pub const NONE: Applied = Applied {
+        echo: false,
+        ready: false,
+        deliver: false,
+        grown: 0,
+    };
+}
+
+/// A source of each owner's list of values, in the order of their broadcasts.
+///
+/// An owner that the source doesn't know has the empty list.
+pub trait Source {
+    // The values of each owner, by its number.
+    ghost lists: { Self → ℕ → List (List ℕ) };
+
+    /// Returns the number of values in the list of `owner`.
+    // promise: one event
+    fn length(&self, owner: u16) -> u32
+        ensures { result ≡ length (lists self.now owner) };
+
+    /// Returns the value at place `k` of the list of `owner`, counted from 0.
+    // promise: one event
+    fn at(&self, owner: u16, k: u32) -> &[u8]
+        requires { k < length (lists self.now owner) }
+        ensures { slice_get (lists self.now owner) k ≡ Some result.now };
+}
+
+/// A member's broadcasts. There is an instance for each owner and number about which something is
+/// known. Beside them are the list of all that the member sent to all, and the length of each
+/// owner's list.
 #[derive(Drop)]
 pub struct Channel<I: Instance + Drop> {
     group: Group,
@@ -49,7 +104,8 @@ impl<I: Instance + Drop> Model for Channel<I> {
 }
 
 impl<I: Instance + Drop> Channel<I> {
-    /// A channel that took no event.
+    /// Creates a channel without events, for the member `own` of `members` members. At most
+    /// `faults` of them are faulty.
     // promise: channel's history
     pub fn new(alloc: Global, members: u16, faults: u16, own: u16) -> Result<Channel<I>, AllocError>
         requires few { members ≤ MOST_MEMBERS }
@@ -74,11 +130,12 @@ impl<I: Instance + Drop> Channel<I> {
         })
     }
 
-    /// Takes one event, and tells what became known by it.
+    /// Applies `event`, and returns what became known by it.
     ///
-    /// A value of one's own has at most a frame's bytes, and fewer than 65,536 came before it. A
-    /// body comes from another member, about a member, and is no WANT. Fails only where memory is
-    /// refused; the channel is then as it was, since all room is made before the first change.
+    /// A value of the member's own has at most a frame's bytes, and fewer than 65,536 values came
+    /// before it. A body comes from another member, is about a member, and is no WANT. It fails
+    /// only if memory runs out. The channel is then unchanged, since all room is made before the
+    /// first change.
     // promise: nothing changes (err); one event (takes, applied, grows)
     // promise: channel's history (follows)
     pub fn apply(&mut self, alloc: Global, event: EventRef) -> Result<Applied, AllocError>
@@ -98,7 +155,7 @@ impl<I: Instance + Drop> Channel<I> {
         }
     }
 
-    // Broadcasts a value of one's own.
+    // Broadcasts a value of the member's own.
     fn ask(&mut self, alloc: Global, value: &[u8]) -> Result<Applied, AllocError>
         requires value { length value.now ≤ GREATEST_VALUE }
         requires number { self.old.asks < seqs }
@@ -116,7 +173,7 @@ impl<I: Instance + Drop> Channel<I> {
         Ok(applied)
     }
 
-    // Takes a body that another member sent.
+    // Applies a body that another member, `process`, sent.
     fn take(&mut self, alloc: Global, process: u16, body: &Body) -> Result<Applied, AllocError>
         requires event { IsEvent self.old.group (From process body.now) }
         ensures takes { OnOk result (Takes self.old self.new (From process body.now)) }
@@ -131,7 +188,8 @@ impl<I: Instance + Drop> Channel<I> {
         }
     }
 
-    // One vote in one broadcast, and all that follows from it: first the growths, then the changes.
+    // Applies a vote in a broadcast, with all that follows from it. Room is made first, then come
+    // the changes.
     fn vote(
         &mut self,
         alloc: Global,
@@ -173,8 +231,8 @@ impl<I: Instance + Drop> Channel<I> {
         })
     }
 
-    /// Whether a body of another member is a lie: one that no correct member sends, behind what
-    /// came from that one by now.
+    /// Returns whether `body` is a protocol violation: a message that no correct member sends after
+    /// what `process` has sent so far.
     // promise: lies
     pub fn is_lie(&self, process: u16, body: &Body) -> bool
         requires { IsEvent self.now.group (From process body.now) }
@@ -189,14 +247,15 @@ impl<I: Instance + Drop> Channel<I> {
         }
     }
 
-    /// How many values of its own the member broadcast: the number that its next one gets.
+    /// Returns how many values of its own the member broadcast. This is the number of its next
+    /// value.
     pub fn asks(&self) -> u32
         ensures { result ≡ self.now.asks }
     {
         self.asks
     }
 
-    /// How many bodies were sent to all.
+    /// Returns how many bodies were sent to all.
     // promise: channel's history
     pub fn sent_len(&self) -> usize
         ensures { result ≡ length self.now.sent }
@@ -204,7 +263,7 @@ impl<I: Instance + Drop> Channel<I> {
         self.sent.len()
     }
 
-    /// The body at a place of the sent list.
+    /// Returns the body at `place` in the sent list.
     // promise: channel's history
     pub fn sent(&self, place: usize) -> Option<&Body>
         ensures { option_copied result ≡ slice_get self.now.sent place }
@@ -212,14 +271,15 @@ impl<I: Instance + Drop> Channel<I> {
         Some(self.sent_shared(place)?.body())
     }
 
-    /// The same, to be shared.
+    /// Returns the body at `place` in the sent list, in a form that copies share.
     pub fn sent_shared(&self, place: usize) -> Option<&SharedBody>
         ensures { option_copied result ≡ slice_get self.now.sent place }
     {
         self.sent.get(place)
     }
 
-    /// The value delivered in a broadcast, whether those before it were delivered or not.
+    /// Returns the value delivered in the broadcast `seq` of `owner`, whether the values before it
+    /// were delivered or not.
     #[tactic(auto, unfolding(crate::specs::State::delivered_value_at, crate::specs::State::meaning_at))]
     // promise: channel's history
     pub fn delivered(&self, owner: u16, seq: u32) -> Option<&[u8]>
@@ -228,7 +288,8 @@ impl<I: Instance + Drop> Channel<I> {
         self.instances.delivered(owner, seq)
     }
 
-    /// The value echoed in a broadcast: in one's own broadcasts, what was asked for.
+    /// Returns the value echoed in the broadcast `seq` of `owner`. In the member's own broadcasts
+    /// it is the value that was submitted.
     #[tactic(auto, unfolding(crate::specs::State::meaning_at))]
     pub fn echoed(&self, owner: u16, seq: u32) -> Option<&[u8]>
         ensures { option_copied result ≡ (meaning_at self.now owner seq).echoed }
@@ -236,7 +297,7 @@ impl<I: Instance + Drop> Channel<I> {
         self.instances.echoed(owner, seq)
     }
 
-    /// The number of values in an owner's list.
+    /// Returns the number of values in the list of `owner`.
     // promise: channel's history
     pub fn in_order(&self, owner: u16) -> u32
         ensures { result ≡ length (channel_lists self.now owner) }
@@ -261,7 +322,7 @@ impl<I: Instance + Drop> Source for Channel<I> {
     }
 }
 
-// As many zeros as there are members.
+// Returns a list of zeros, one for each member.
 fn zeros(alloc: Global, members: u16) -> Result<Vec<u32>, AllocError>
     ensures { IfOk result (λ made. made.items ≡ replicate members 0) }
 {
@@ -272,7 +333,8 @@ fn zeros(alloc: Global, members: u16) -> Result<Vec<u32>, AllocError>
     Ok(made)
 }
 
-// The vote that a body is where it came from this process: a SEND is one from its owner alone.
+// Returns the vote that `body` is if it came from `process`. A SEND is a vote only if it came from
+// its owner.
 #[tactic(auto, unfolding(pay_echo::specs::Broadcast::value_of))]
 fn vote_in<'a>(process: u16, body: &'a Body) -> Option<VoteRef<'a>>
     ensures vote { option_map vote_of_ref result ≡ event_vote (From process body.now) }
@@ -292,7 +354,7 @@ fn vote_in<'a>(process: u16, body: &'a Body) -> Option<VoteRef<'a>>
     }
 }
 
-// Puts a body at the end, where there is one; room for it was made.
+// Appends `body` to the sent list, if there is one. Room for it was made before.
 fn say(sent: &mut Vec<SharedBody>, body: Option<SharedBody>)
     requires { vec_len sent.old + 1 ≤ vec_capacity sent.old }
     ensures items { sent.new.items ≡ sent.old.items ++ option_to_list body }

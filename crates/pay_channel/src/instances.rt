@@ -2,15 +2,15 @@ ghost use Rattle.std.specs.Prelude.{◌≡◌, ◌≢◌, ◌≤◌, ◌<◌, �
 ghost use Rattle.std.specs.Prelude.{is_some, IfOk, OnOk, OnErr};
 ghost use Rattle.std.specs.Bool.{then_some};
 ghost use Rattle.std.specs.Option.{option_copied};
+ghost use Rattle.pay_channel.specs.Hearing.{HearsVote, IsOutgoing};
+ghost use Rattle.pay_channel.specs.History.{seqs, known_from, body_of};
+ghost use Rattle.pay_channel.specs.State.{meaning_in};
 ghost use Rattle.pay_echo.specs.Broadcast.{Group, Vote, IsForeign, value_of};
 ghost use Rattle.pay_echo.specs.Meaning.{meaning_of, Sees};
 ghost use Rattle.pay_echo.specs.Step.{vote_before};
 ghost use Rattle.pay_echo.specs.Votes.{vote_of_ref};
-ghost use Rattle.pay_channel.specs.History.{seqs, known_from, body_of};
-ghost use Rattle.pay_channel.specs.State.{meaning_in};
-ghost use Rattle.pay_channel.specs.Hearing.{HearsVote, IsOutgoing};
 
-use crate::outgoing::Outgoing;
+use crate::channel::Outgoing;
 use pay_echo::laws::{nothing_known_at_first, votes_came};
 use pay_echo::{Group, Instance, VoteRef};
 use pay_frame::{Body, Bytes, GREATEST_VALUE, Kind, MOST_MEMBERS, SEQS, SharedBody};
@@ -18,10 +18,10 @@ use std::alloc::{AllocError, Global};
 use std::collections::BTreeMap;
 use std::marker::Model;
 
-/// The instances of the broadcasts of which something is known, by owner and number.
+/// The instances of the broadcasts about which something is known, by owner and number.
 ///
-/// A tree has room only for what was said, whichever number a liar names. A hash map would be
-/// constant in time, under a hash that a liar may know.
+/// A tree has room only for what was said, whichever number a faulty member names. A hash map would
+/// be constant in time only with a hash that a faulty member may know.
 #[derive(Drop)]
 pub struct Instances<I: Instance + Drop> {
     by_broadcast: BTreeMap<(u16, u32), I>,
@@ -47,7 +47,7 @@ impl<I: Instance + Drop> Instances<I> {
         }
     }
 
-    /// The value delivered in a broadcast.
+    /// Returns the value delivered in the broadcast `seq` of `owner`.
     pub fn delivered(&self, owner: u16, seq: u32) -> Option<&[u8]>
         ensures { (g : Group) → option_copied result ≡ (meaning_in g self.now owner seq).delivered }
     {
@@ -59,7 +59,7 @@ impl<I: Instance + Drop> Instances<I> {
         }
     }
 
-    /// The value echoed in a broadcast.
+    /// Returns the value echoed in the broadcast `seq` of `owner`.
     pub fn echoed(&self, owner: u16, seq: u32) -> Option<&[u8]>
         ensures { (g : Group) → option_copied result ≡ (meaning_in g self.now owner seq).echoed }
     {
@@ -71,7 +71,8 @@ impl<I: Instance + Drop> Instances<I> {
         }
     }
 
-    /// Whether a vote of this kind came before in a broadcast from the same process.
+    /// Returns whether a vote of this kind came before from the process of `vote`, in the broadcast
+    /// `seq` of `owner`.
     pub fn has_voted(&self, group: Group, owner: u16, seq: u32, vote: VoteRef) -> bool
         requires foreign { IsForeign group (vote_of_ref vote) }
         requires reached { (votes : List Vote)
@@ -87,7 +88,8 @@ impl<I: Instance + Drop> Instances<I> {
         }
     }
 
-    /// How many numbers from this one on have a delivered value, up to the first that has none.
+    /// Returns how many numbers from `from` on have a delivered value, up to the first number that
+    /// has none.
     pub fn count_following(&self, owner: u16, from: u32) -> u32
         requires { from ≤ seqs }
         ensures { (g : Group) → result ≡ length
@@ -101,8 +103,9 @@ impl<I: Instance + Drop> Instances<I> {
         SEQS - from
     }
 
-    /// The same where this number had no delivered value before a vote in one broadcast of the
-    /// owner, which delivered its value or didn't: most votes don't, and nothing is looked up then.
+    /// Returns what `count_following` returns after a vote in the broadcast `seq`. Before that vote
+    /// the number `from` had no delivered value, and `delivers` says whether the vote delivered.
+    /// Most votes don't, and nothing is looked up then.
     pub fn count_behind(&self, group: Group, owner: u16, from: u32, seq: u32, delivers: bool) -> u32
         requires from { from ≤ seqs }
         requires none { from < seqs → (seq ≡ from → delivers ≡ false)
@@ -117,8 +120,8 @@ impl<I: Instance + Drop> Instances<I> {
         }
     }
 
-    /// Tells a broadcast's instance one vote; where none is there yet, a fresh one. The bodies that
-    /// are due are made before the instance changes.
+    /// Passes `vote` to the instance of the broadcast `seq` of `owner`, and creates the instance if
+    /// there is none yet. The bodies to send are made before the instance changes.
     pub fn hear(
         &mut self,
         alloc: Global,
@@ -151,8 +154,8 @@ impl<I: Instance + Drop> Instances<I> {
     }
 }
 
-// Asks an instance what a vote makes known, makes the bodies that are due, and then tells it the
-// vote and its own answer.
+// Passes a vote to `instance`. It first asks the instance what the vote makes known, and makes the
+// bodies to send.
 fn tell<I: Instance>(
     instance: &mut I,
     alloc: Global,
@@ -178,7 +181,7 @@ fn tell<I: Instance>(
     Ok(Outgoing { moves, echo, ready })
 }
 
-// A body of a kind about a broadcast, if it is due.
+// Returns a body of this `kind` about a broadcast, if it is `due`.
 fn body_if(
     due: bool,
     alloc: Global,
@@ -198,7 +201,7 @@ fn body_if(
     Ok(Some(body_of(alloc, kind, owner, seq, value)?))
 }
 
-/// A body of a kind about a broadcast.
+/// Returns a body of this `kind` about a broadcast.
 pub fn body_of(
     alloc: Global,
     kind: Kind,

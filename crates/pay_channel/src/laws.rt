@@ -1,30 +1,37 @@
-//! Laws of a history's votes, sent list and lists. Each function's contract is the law. Its body is
-//! empty, or only names the laws of one broadcast that it stands on.
+//! Laws of a history's votes, sent list and lists, and a worked example of them. The functions do
+//! nothing: their contracts are the laws.
 
-ghost use Rattle.pay_channel.specs.VoteLaws.{NoVotesAtFirst, NoAsksAtFirst, VotesByOneMore};
-ghost use Rattle.pay_channel.specs.VoteLaws.{AsksByOneMore, OthersUntouched, VotesGrow};
-ghost use Rattle.pay_channel.specs.VoteLaws.{EchoIsTaken, ReadyIsTaken, SendIsTaken};
-ghost use Rattle.pay_channel.specs.TakenLaws.{NothingTakenAtFirst, TakenByOneMore, TakenFromHere};
-ghost use Rattle.pay_channel.specs.TakenLaws.{TakenFromElsewhere, TakenGrows, TakenIsFrom};
-ghost use Rattle.pay_channel.specs.TakenLaws.{NextIsCount, NextByOneMore};
-ghost use Rattle.pay_channel.specs.SentLaws.{NothingSentAtFirst, OutByOneMore, OutGrows, EchoInOut};
-ghost use Rattle.pay_channel.specs.SentLaws.{ReadyInOut, EchoIsSaid, ReadyIsSaid, SentMayCome};
-ghost use Rattle.pay_channel.specs.SentLaws.{NothingAskedAtFirst, AskedByOneMore, AskedGrows};
-ghost use Rattle.pay_channel.specs.SentLaws.{AsksAreCounted, SendsAreAsks, SendInOut, SentIsAsked};
-ghost use Rattle.pay_channel.specs.SentLaws.{OwnEchoIsAsk};
+ghost use Rattle.std.specs.Prelude.{◌≡◌, [], ◌∷◌, ◌++◌, All};
+ghost use Rattle.pay_channel.specs.Asked.{asked_values, sends_in, sends_of};
+ghost use Rattle.pay_channel.specs.Examples.{four, forestalled_ask, late_first_number, A, X, Y};
+ghost use Rattle.pay_channel.specs.FollowLaws.{ChannelFollows, UnchangedFollows, ValuesFollow};
+ghost use Rattle.pay_channel.specs.FollowLaws.{ListsFollow, AnswersFollow, FollowersAreAlike};
+ghost use Rattle.pay_channel.specs.FollowLaws.{LiesFollow, ListsOfAreShort, UnchangedLists};
+ghost use Rattle.pay_channel.specs.History.{IsEvent, Ask, From, body_of, votes, out, delivered_at};
+ghost use Rattle.pay_channel.specs.History.{list_of};
 ghost use Rattle.pay_channel.specs.ListLaws.{DeliveredIs, NothingDeliveredAtFirst, DeliveryStays};
 ghost use Rattle.pay_channel.specs.ListLaws.{DeliveredCame, PlaceIsValue, PlaceIsDelivered};
 ghost use Rattle.pay_channel.specs.ListLaws.{ListedIsDelivered, ListIsShort, ListReaches, ListEnds};
 ghost use Rattle.pay_channel.specs.ListLaws.{EmptyAtFirst, EmptyOfNobody, ListIsValues};
 ghost use Rattle.pay_channel.specs.ListLaws.{ListBeginsValues, ListsAlike, ListsCompare, ListsGrow};
 ghost use Rattle.pay_channel.specs.ListLaws.{OneListGrows};
-ghost use Rattle.pay_channel.specs.FollowLaws.{ChannelFollows, UnchangedFollows, ValuesFollow};
-ghost use Rattle.pay_channel.specs.FollowLaws.{ListsFollow, AnswersFollow, FollowersAreAlike};
-ghost use Rattle.pay_channel.specs.FollowLaws.{LiesFollow, ListsOfAreShort, UnchangedLists};
+ghost use Rattle.pay_channel.specs.SentLaws.{NothingSentAtFirst, OutByOneMore, OutGrows, EchoInOut};
+ghost use Rattle.pay_channel.specs.SentLaws.{ReadyInOut, EchoIsSaid, ReadyIsSaid, SentMayCome};
+ghost use Rattle.pay_channel.specs.SentLaws.{NothingAskedAtFirst, AskedByOneMore, AskedGrows};
+ghost use Rattle.pay_channel.specs.SentLaws.{AsksAreCounted, SendsAreAsks, SendInOut, SentIsAsked};
+ghost use Rattle.pay_channel.specs.SentLaws.{OwnEchoIsAsk};
+ghost use Rattle.pay_channel.specs.TakenLaws.{NothingTakenAtFirst, TakenByOneMore, TakenFromHere};
+ghost use Rattle.pay_channel.specs.TakenLaws.{TakenFromElsewhere, TakenGrows, TakenIsFrom};
+ghost use Rattle.pay_channel.specs.TakenLaws.{NextIsCount, NextByOneMore};
+ghost use Rattle.pay_channel.specs.VoteLaws.{NoVotesAtFirst, NoAsksAtFirst, VotesByOneMore};
+ghost use Rattle.pay_channel.specs.VoteLaws.{AsksByOneMore, OthersUntouched, VotesGrow};
+ghost use Rattle.pay_channel.specs.VoteLaws.{EchoIsTaken, ReadyIsTaken, SendIsTaken};
+ghost use Rattle.pay_echo.specs.Broadcast.{echoed};
+ghost use Rattle.pay_frame.specs.declared.body.Kind.TheVariants.{Send, Echo, Ready};
 
 use pay_echo::laws::{known_stays, nothing_known_at_first, one_vote_more, votes_came};
 
-/// Of no event nothing is voted, asked for, sent, taken, delivered or listed.
+/// States that without events nothing is voted, submitted, sent, accepted, delivered or listed.
 // promise: votes taken
 pub fn nothing_at_first()
     ensures votes { NoVotesAtFirst }
@@ -38,8 +45,8 @@ pub fn nothing_at_first()
     nothing_known_at_first();
 }
 
-/// What a history's votes, asked values and sent list are with one event more; the event is a vote
-/// in one broadcast at most.
+/// States what one more event does to a history's votes, submitted values and sent list. The event
+/// is a vote in at most one broadcast.
 // promise: votes taken
 pub fn one_event_more()
     ensures votes { VotesByOneMore }
@@ -49,16 +56,16 @@ pub fn one_event_more()
     ensures others { OthersUntouched }
 {}
 
-/// A shorter history's votes and sent list are prefixes of a longer one's.
+/// States that a shorter history's votes and sent list are prefixes of a longer one's.
 // promise: growth
 pub fn grow_at_the_end()
     ensures votes { VotesGrow }
     ensures out { OutGrows }
 {}
 
-/// Votes are what was taken, both ways: an ECHO or READY of a process is a vote exactly where that
-/// process's body is in the history, and a SEND of another's broadcast exactly where its owner's
-/// is.
+/// States that votes are exactly what was accepted. An ECHO or READY of a process is a vote exactly
+/// if that process's body is in the history. A SEND in another member's broadcast is a vote exactly
+/// if its owner's body is.
 // promise: votes taken
 pub fn votes_are_taken()
     ensures echo { EchoIsTaken }
@@ -66,8 +73,8 @@ pub fn votes_are_taken()
     ensures send { SendIsTaken }
 {}
 
-/// What was taken from one member, in order, with one event more and over a longer history; the
-/// next number from it counts its events.
+/// States what was accepted from a member, in order, after one more event and in a longer history.
+/// The next number from the member counts its events.
 // promise: growth
 pub fn taken_in_order()
     ensures more { TakenByOneMore }
@@ -79,8 +86,9 @@ pub fn taken_in_order()
     ensures next { NextByOneMore }
 {}
 
-/// The sent list has one ECHO about a broadcast exactly where a value was echoed in it, with that
-/// value, and the same for READY. What it has may come to any other member of the group.
+/// States what is sent. The sent list has one ECHO about a broadcast exactly if a value was echoed
+/// in it, with that value, and READY likewise. Its bodies may come to any other member of the
+/// group.
 // promise: what is sent
 pub fn what_is_sent()
     ensures echo { EchoInOut }
@@ -93,9 +101,9 @@ pub fn what_is_sent()
     known_stays();
 }
 
-/// The SENDs of the sent list are the values that the member asked to broadcast, in their order and
-/// numbered from 0: there is one for each, and no other. The same values are echoed in its own
-/// broadcasts.
+/// States that the SENDs of the sent list are the values that the member submitted, in their order
+/// and numbered from 0. There is one SEND for each value and no other. These values are echoed in
+/// its own broadcasts.
 // promise: what is sent
 pub fn sends_are_asks()
     ensures counted { AsksAreCounted }
@@ -107,8 +115,8 @@ pub fn sends_are_asks()
     one_vote_more();
 }
 
-/// What is delivered in a broadcast is what its votes deliver, and stays so as the history grows.
-/// It is the value of an event that was taken.
+/// States that what is delivered in a broadcast is what its votes deliver, and stays so as the
+/// history grows. It is the value of an event of the history.
 // promise: growth
 pub fn delivered_for_good()
     ensures is { DeliveredIs }
@@ -120,8 +128,9 @@ pub fn delivered_for_good()
     one_vote_more();
 }
 
-/// An account's list in words of what is delivered: it has a place exactly where all numbers up to
-/// it are delivered, and there the value delivered; so it ends at the first number that has none.
+/// States what an account's list is in terms of deliveries. It has a place exactly if all numbers
+/// up to it are delivered, and there it has the delivered value. So it ends at the first number
+/// without one.
 // promise: lists
 pub fn lists_are_delivered()
     ensures values { PlaceIsValue }
@@ -133,9 +142,9 @@ pub fn lists_are_delivered()
     ensures nobody { EmptyOfNobody }
 {}
 
-/// A list next to given values, and next to another member's list of the same account: alike where
-/// the deliveries are, and a prefix where nothing else is delivered. Where two members' deliveries
-/// never differ, one list is a prefix of the other.
+/// States how lists compare. A list equals given values if the deliveries do, and is a prefix of
+/// them if nothing else is delivered. If two members' deliveries never differ, one of their lists
+/// is a prefix of the other.
 // promise: lists
 pub fn lists_compared()
     ensures values { ListIsValues }
@@ -144,8 +153,8 @@ pub fn lists_compared()
     ensures compare { ListsCompare }
 {}
 
-/// A shorter history's asked values and lists are prefixes of a longer one's, and one event can
-/// only make the list of the account that it is about longer.
+/// States that a shorter history's submitted values and lists are prefixes of a longer one's. One
+/// event can lengthen only the list of the account that it is about.
 // promise: growth
 pub fn lists_grow()
     ensures asked { AskedGrows }
@@ -155,9 +164,10 @@ pub fn lists_grow()
     known_stays();
 }
 
-/// A channel that follows a history follows the longer one after one event, and the same one where
-/// nothing that can be seen changed. Its deliveries, lists and answers, and the lies that it finds,
-/// are those of the history, so that nothing tells apart two channels that follow the same one.
+/// States that a channel which follows a history follows the longer history after one event, and
+/// this history if nothing visible changed. Its deliveries, lists, answers and detected protocol
+/// violations are those of the history. So nothing distinguishes two channels that follow one
+/// history.
 // promise: channel's history
 pub fn a_channel_follows()
     ensures event { ChannelFollows }
@@ -172,9 +182,35 @@ pub fn a_channel_follows()
     votes_are_taken();
 }
 
-/// Whatever a channel took, no list of it has more than one value for each number, and where
-/// nothing that can be seen changed its lists are the same.
+/// States that whatever events a channel had, no list of it has more than one value for each
+/// number. If nothing visible changed, its lists are unchanged.
 pub fn lists_of_a_channel()
     ensures short { ListsOfAreShort }
     ensures unchanged { UnchangedLists }
+{}
+
+/// States what is sent to all: READY for each number, and SEND and ECHO of the submitted value. The
+/// SEND of account 3 by another member does nothing.
+pub fn late_first_number_out()
+    ensures { out four late_first_number
+        ≡ body_of Ready 3 1 X ∷ body_of Ready 3 0 Y ∷ body_of Send 0 0 A ∷ body_of Echo 0 0 A ∷ [] }
+{}
+
+/// States that number 1 is delivered before number 0, and that the list has both, in their order.
+pub fn late_first_number_list()
+    ensures delivered { delivered_at four late_first_number 3 1 ≡ Some X }
+    ensures listed { list_of four late_first_number 3 ≡ Y ∷ X ∷ [] }
+    ensures own { list_of four late_first_number 0 ≡ [] }
+{}
+
+/// States that one value was submitted: it has the only SEND, and is echoed. A second value gets
+/// number 1, and another member's earlier SEND for that number does nothing.
+pub fn late_first_number_asked()
+    ensures events { All (IsEvent four) late_first_number }
+    ensures asked { asked_values late_first_number ≡ A ∷ [] }
+    ensures sends { sends_in (out four late_first_number) ≡ body_of Send 0 0 A ∷ [] }
+    ensures echo { echoed (votes 0 0 0 late_first_number) ≡ Some A }
+    ensures again { asked_values forestalled_ask ≡ A ∷ X ∷ [] }
+    ensures numbered { sends_of 0 (A ∷ X ∷ []) ≡ body_of Send 0 0 A ∷ body_of Send 0 1 X ∷ [] }
+    ensures forged { echoed (votes 0 0 1 forestalled_ask) ≡ Some X }
 {}

@@ -33,7 +33,7 @@ pub text_or : (lent : Option (Bor Text)) (other : Bor Text)
 text_or None other = refl
 text_or (Some s) other = refl
 
-pub view_of_job-none : (met : Option (Text × List Row)) → None ≡ option_map (λ p. p.1) met → check None None None false ≡ job_of_command met
+pub view_of_job-none : (met : Option (Text × List Row)) → None ≡ option_map (λ p. p.1) met → check None None false ≡ job_of_command met
 view_of_job-none None h = refl
 view_of_job-none (Some p) h = absurd cc
 

@@ -7,7 +7,7 @@ use Rattle.std.proofs.lemmas.List.Sums.{sum_by-cons}
 use Rattle.std.proofs.lemmas.List.{length-replicate, get_or-replicate, get_or-set_same, get_or-set_other}
 use Rattle.pay_frame.specs.Frame.{FrameFields}
 use Rattle.pay_link.specs.Keys.{KeyFields}
-use Rattle.pay_cli.specs.declared.progress.Progress.{Progress}
+use Rattle.pay_cli.specs.declared.check.Progress.{Progress}
 use Rattle.pay_cli.specs.Lines.{Outcome, Taken, Wanted, Refused, progress_after, check_outcome, fronts_after}
 use Rattle.pay_cli.specs.CheckText.{at_start, known_after, outcomes, is_ok_from}
 use Rattle.pay_cli.specs.Values.{CheckerFields}

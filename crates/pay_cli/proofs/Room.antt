@@ -5,7 +5,7 @@ use Rattle.std.proofs.lemmas.Bool.{cases_eq, cases_lt}
 use Rattle.std.proofs.lemmas.List.{length-set, length-replicate, get_or-replicate, get_or-set_same, get_or-set_other, get_or_past}
 use Rattle.pay_frame.specs.Frame.{FrameFields}
 use Rattle.pay_link.specs.Keys.{KeyFields}
-use Rattle.pay_cli.specs.declared.progress.Progress.{Progress}
+use Rattle.pay_cli.specs.declared.check.Progress.{Progress}
 use Rattle.pay_cli.specs.Lines.{Outcome, Taken, Wanted, Refused, progress_after, check_outcome, fronts_after}
 use Rattle.pay_cli.specs.CheckText.{at_start}
 use Rattle.pay_cli.specs.Engine.{HasRoom}

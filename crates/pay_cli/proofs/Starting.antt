@@ -3,10 +3,10 @@ use Rattle.std.proofs.Common.{◌≡◌, ◌∙◌, ℕ, List, [], length, Optio
 use Rattle.std.specs.Prelude.{Result, ⊤, replicate}
 use Rattle.std.proofs.KnownBytes.{Appends-nil}
 use Rattle.pay_frame.specs.Stream.{IsBytes}
-use Rattle.pay_engine.specs.declared.engine_fault.EngineFault.{EngineFault}
-use Rattle.pay_engine.specs.Exact.{Writes as EngineWrites, WritesBeginning}
+use Rattle.pay_frame.specs.declared.engine.EngineFault.{EngineFault}
+use Rattle.pay_frame.specs.Exact.{Writes as EngineWrites, WritesBeginning}
 use Rattle.pay_link.specs.Keys.{KeyFields}
-use Rattle.pay_cli.specs.declared.progress.Progress.{Progress}
+use Rattle.pay_cli.specs.declared.check.Progress.{Progress}
 use Rattle.pay_cli.specs.CheckText.{HasCheckText, at_start, checking}
 use Rattle.pay_cli.specs.Engine.{WritesCheckText, check_start}
 use Rattle.pay_cli.specs.Values.{CheckerFields}

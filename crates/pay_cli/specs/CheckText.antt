@@ -1,11 +1,11 @@
--- The text of `check` for a list of bytes: a line for each frame of the stream, behind it one for
--- what its value pays, where that is asked, and one for the fault that the stream ends with.
+-- The text of `check` for a list of bytes. Each frame of the stream has a line, followed by a line
+-- for what its value pays, if that is requested. The fault that the stream ends with has a line.
 use Rattle.std.specs.Prelude.{ℕ, Bool, false, ◌==◌, List, [], ◌∷◌, ◌++◌, length, replicate, Option}
-use Rattle.pay_frame.specs.declared.fault.FrameFault.{FrameFault}
+use Rattle.pay_frame.specs.declared.reading.FrameFault.{FrameFault}
 use Rattle.pay_frame.specs.Frame.{FrameFields}
-use Rattle.pay_engine.specs.Exact.{Function, IsText, state_after}
+use Rattle.pay_frame.specs.Exact.{Function, IsText, state_after}
 use Rattle.pay_link.specs.Keys.{KeyFields}
-use Rattle.pay_cli.specs.declared.progress.Progress.{Progress}
+use Rattle.pay_cli.specs.declared.check.Progress.{Progress}
 use Rattle.pay_cli.specs.Lines.{Outcome, Taken, Wanted, Refused, check_outcome, line_of}
 use Rattle.pay_cli.specs.Lines.{progress_after}
 use Rattle.pay_cli.specs.Lines.{fault_line}
@@ -23,7 +23,7 @@ checking q = record {
   fault_text = λ p fault. fault_line p.line fault;
 }
 
--- before the first line nothing was taken
+-- before the first line nothing was accepted
 abbrev pub at_start : KeyFields → Progress
 at_start k = record { fronts = replicate (length k.keys) 0; line = 1 }
 
@@ -37,13 +37,13 @@ pub record IsCheckText (q : CheckerFields) (bytes text : List ℕ) (ending : Opt
   pub known : Progress
   pub is : IsText (checking q) [] (at_start q.keys) known bytes text ending
 
--- some text is it
+-- bytes have some text
 pub record HasCheckText (q : CheckerFields) (bytes : List ℕ) : Type 0 where
   pub text : List ℕ
   pub ending : Option FrameFault
   pub is : IsCheckText q bytes text ending
 
--- ---- how the next numbers come about
+-- ---- where the next numbers come from
 
 -- some frames, each with what becomes of it
 abbrev pub outcomes : KeyFields → Progress → List FrameFields → List (FrameFields × Outcome)

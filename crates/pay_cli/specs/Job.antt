@@ -1,5 +1,4 @@
--- What the words of the program ask for. Which words a command takes is what `clap` says of simple
--- commands.
+-- What the words of the program request. `clap` says which words a simple command has.
 use Rattle.std.specs.Prelude.{◌≡◌, Bool, List, [], Option, Some, None, true, false, codes, map}
 use Rattle.std.specs.Prelude.{option_map, if◌then◌else◌}
 use Rattle.std.specs.Option.{option_map_or, unwrap_or}
@@ -10,32 +9,28 @@ use Rattle.clap.specs.declared.builder.Arg.{Arg}
 use Rattle.clap.specs.declared.builder.action.ArgAction.TheVariants.{Append, SetTrue}
 use Rattle.clap.specs.declared.builder.Command.{Command}
 use Rattle.clap.specs.declared.builder.command.Command.TheViews.{out-Command}
-use Rattle.pay_cli.specs.declared.job.Job.{Job}
-use Rattle.pay_cli.specs.declared.job.Job.TheVariants.{Check, Desk, Node, Send, Export, Audit, Book}
-use Rattle.pay_cli.specs.declared.job.Job.TheVariants.{Statement, Journal, Sim}
+use Rattle.pay_cli.specs.declared.words.Job.{Job}
+use Rattle.pay_cli.specs.declared.words.Job.TheVariants.{Check, Desk, Node, Export, Audit, Book}
+use Rattle.pay_cli.specs.declared.words.Job.TheVariants.{Statement, Journal, Sim}
 
--- change: a word or an option of the program: `src/words.rt`
--- an option that takes a word
+-- an option with a word
 abbrev pub option_rule : Text → Rule
 option_rule name = record (new_rule name) { long = Some name; value_names = 1 }
 
--- one without which the words aren't read
+-- an option without which the words aren't read
 abbrev pub required_rule : Text → Rule
 required_rule name = record (option_rule name) { required = true }
 
--- an option that takes none
+-- an option without a word
 abbrev pub flag_rule : Text → Rule
 flag_rule name = record (new_rule name) { long = Some name; action = Some SetTrue }
 
--- `check`, which takes a genesis, keys and a count of threads, and tells of values what they pay
--- where that is asked for
+-- `check`, with a genesis and keys, and a flag to say what values pay
 abbrev pub check_app : App
 check_app =
     with_rule
-    (with_rule
     (with_rule (with_rule (new_app (codes "check")) (option_rule (codes "genesis")))
     (option_rule (codes "keys")))
-    (option_rule (codes "jobs")))
     (flag_rule (codes "values"))
 
 -- `desk`, which needs both
@@ -44,8 +39,8 @@ desk_app =
     with_rule (with_rule (new_app (codes "desk")) (required_rule (codes "genesis")))
     (required_rule (codes "keys"))
 
--- `node`, which needs both, and ports, and takes dials, how many frames are asked for ahead, a
--- folder, in which its member may be made, and with which it may stay, and a socket
+-- `node`, which needs both, and ports. It may have dials, a pipelining depth, a folder, flags to
+-- make the member there and to stay with it, and a socket
 abbrev pub node_app : App
 node_app =
     with_rule
@@ -65,18 +60,6 @@ node_app =
     (flag_rule (codes "stay")))
     (option_rule (codes "socket"))
 
--- lines, if any are given
-abbrev pub lines_rule : Rule
-lines_rule = record (new_rule (codes "lines")) { action = Some Append; value_names = 1 }
-
--- `send`, which takes a folder, a socket, a time and lines
-abbrev pub send_app : App
-send_app =
-    with_rule (with_rule (with_rule (with_rule (new_app (codes "send")) lines_rule)
-    (option_rule (codes "data")))
-    (option_rule (codes "socket")))
-    (option_rule (codes "timeout"))
-
 -- `export`, which needs both, and a folder
 abbrev pub export_app : App
 export_app =
@@ -90,15 +73,11 @@ abbrev pub files_rule : Rule
 files_rule =
     record (new_rule (codes "files")) { required = true; action = Some Append; value_names = 1 }
 
--- `audit`, which takes files and a count of threads, and names all that is wrong where that is
--- asked for
+-- `audit`, with files, and a flag to name all that is wrong
 abbrev pub audit_app : App
-audit_app =
-    with_rule
-    (with_rule (with_rule (new_app (codes "audit")) files_rule) (option_rule (codes "jobs")))
-    (flag_rule (codes "all"))
+audit_app = with_rule (with_rule (new_app (codes "audit")) files_rule) (flag_rule (codes "all"))
 
--- `book`, which takes files, and is written as a genesis or as an export where that is asked for
+-- `book`, with files, and flags to write a genesis or an export
 abbrev pub book_app : App
 book_app =
     with_rule
@@ -113,16 +92,16 @@ export_rule = record (new_rule (codes "export")) { required = true; value_names 
 abbrev pub account_rule : Rule
 account_rule = record (new_rule (codes "account")) { value_names = 1 }
 
--- `statement`, which takes an export, and may take an account
+-- `statement`, with an export, and perhaps an account
 abbrev pub statement_app : App
 statement_app = with_rule (with_rule (new_app (codes "statement")) export_rule) account_rule
 
--- `journal`, which takes an export, and may take a date
+-- `journal`, with an export, and perhaps a date
 abbrev pub journal_app : App
 journal_app =
     with_rule (with_rule (new_app (codes "journal")) export_rule) (option_rule (codes "date"))
 
--- `sim`, which takes nothing
+-- `sim`, without arguments
 abbrev pub sim_app : App
 sim_app = new_app (codes "sim")
 
@@ -142,9 +121,7 @@ payd_app =
     (with_subcommand
     (with_subcommand
     (with_subcommand
-    (with_subcommand
     (with_subcommand (with_subcommand payd_alone check_app.top) desk_app.top) node_app.top)
-    send_app.top)
     export_app.top)
     audit_app.top)
     book_app.top)
@@ -162,28 +139,26 @@ pub record IsArgument (o : Arg) (r : Rule) : Type 0 where
   pub rule : rule_of o ≡ r
   pub global : o.global ≡ false
 
--- a command, and what it is given: the names of files, of a folder and of a socket, an account, a
--- date, lines, and the words that say the threads of a check or an audit, whether the check tells
--- what values pay, whether the audit names all that is wrong, how a book is written, and of a node
--- its dials, how many frames it asks for ahead, whether its member is made, and whether it stays
+-- A command and its arguments: the names of files, of a folder and of a socket, an account, and a
+-- date. Flags say whether a check tells what values pay, whether an audit names all that is wrong,
+-- and how a group ledger is written. A node has its dials, its pipelining depth, and whether its
+-- member is made and stays.
 pub data Asked : Type 0 where
-  check : Option Text → Option Text → Option Text → Bool → Asked
+  check : Option Text → Option Text → Bool → Asked
   desk : Text → Text → Asked
   node : Text → Text → Text → Option Text → Option Text → Option Text → Bool → Bool → Option Text
       → Asked
-  sent : List Text → Option Text → Option Text → Option Text → Asked
   exported : Text → Text → Text → Asked
-  audit : List Text → Option Text → Bool → Asked
+  audit : List Text → Bool → Asked
   book : List Text → Bool → Bool → Asked
   statement : Text → Option Text → Asked
   journal : Text → Option Text → Asked
   sim : Asked
 
--- what a job is, by the texts that it lends
+-- what a job is, with the texts that it lends
 abbrev pub view_of_job : Job → Asked
-view_of_job (Check genesis keys jobs tells_values) =
-    check (option_map (λ name. name.now) genesis) (option_map (λ name. name.now) keys)
-    (option_map (λ word. word.now) jobs) tells_values
+view_of_job (Check genesis keys tells_values) =
+    check (option_map (λ name. name.now) genesis) (option_map (λ name. name.now) keys) tells_values
 view_of_job (Desk genesis keys) = desk genesis.now keys.now
 view_of_job (Node words) =
     node words.genesis.now words.keys.now words.ports.now
@@ -191,13 +166,8 @@ view_of_job (Node words) =
     (option_map (λ word. word.now) words.ahead)
     (option_map (λ name. name.now) words.folder) words.makes_new words.stays
     (option_map (λ name. name.now) words.socket)
-view_of_job (Send words) =
-    sent (map (λ line. line.now) words.lines.items) (option_map (λ name. name.now) words.folder)
-    (option_map (λ name. name.now) words.socket)
-    (option_map (λ word. word.now) words.timeout)
 view_of_job (Export genesis keys folder) = exported genesis.now keys.now folder.now
-view_of_job (Audit files jobs all) =
-    audit (map (λ name. name.now) files.items) (option_map (λ word. word.now) jobs) all
+view_of_job (Audit files all) = audit (map (λ name. name.now) files.items) all
 view_of_job (Book files as_genesis as_export) =
     book (map (λ name. name.now) files.items) as_genesis as_export
 view_of_job (Statement export account) =
@@ -209,11 +179,11 @@ view_of_job Sim = sim
 abbrev pub is_set : Text → List Row → Bool
 is_set flag rows = option_map_or (λ word. bytes_eq word (codes "true")) (first_of flag rows) false
 
--- what the words of a command ask for
+-- what the words of a command request
 abbrev pub check_asked : List Row → Asked
 check_asked rows =
     check (first_of (codes "genesis") rows) (first_of (codes "keys") rows)
-    (first_of (codes "jobs") rows) (is_set (codes "values") rows)
+    (is_set (codes "values") rows)
 
 -- the value of an option that has to be there: the words aren't read without it
 abbrev pub required_text : Text → List Row → Text
@@ -229,14 +199,6 @@ node_asked rows =
     (first_of (codes "dials") rows) (first_of (codes "ahead") rows) (first_of (codes "data") rows)
     (is_set (codes "new") rows) (is_set (codes "stay") rows) (first_of (codes "socket") rows)
 
-abbrev pub texts_of_lines : List Row → List Text
-texts_of_lines rows = unwrap_or (all_of (codes "lines") rows) []
-
-abbrev pub send_asked : List Row → Asked
-send_asked rows =
-    sent (texts_of_lines rows) (first_of (codes "data") rows) (first_of (codes "socket") rows)
-    (first_of (codes "timeout") rows)
-
 abbrev pub export_asked : List Row → Asked
 export_asked rows =
     exported (required_text (codes "genesis") rows) (required_text (codes "keys") rows)
@@ -246,7 +208,7 @@ abbrev pub files_of : List Row → List Text
 files_of rows = unwrap_or (all_of (codes "files") rows) []
 
 abbrev pub audit_asked : List Row → Asked
-audit_asked rows = audit (files_of rows) (first_of (codes "jobs") rows) (is_set (codes "all") rows)
+audit_asked rows = audit (files_of rows) (is_set (codes "all") rows)
 
 abbrev pub book_asked : List Row → Asked
 book_asked rows =
@@ -263,7 +225,6 @@ abbrev pub asked_of : Text → List Row → Asked
 asked_of name rows =
     if bytes_eq name (codes "desk") then desk_asked rows
     else if bytes_eq name (codes "node") then node_asked rows
-    else if bytes_eq name (codes "send") then send_asked rows
     else if bytes_eq name (codes "export") then export_asked rows
     else if bytes_eq name (codes "audit") then audit_asked rows
     else if bytes_eq name (codes "book") then book_asked rows
@@ -272,12 +233,12 @@ asked_of name rows =
     else if bytes_eq name (codes "sim") then sim
     else check_asked rows
 
--- what the command that was met asks for; without one it is `check`
--- page: `job_of_command`: a job is what the words ask for, as `clap` describes a simple command
+-- the job of the command, or `check` without one
+-- page: `job_of_command`: a job is what the words request, as `clap` describes a simple command
 abbrev pub job_of_command : Option (Text × List Row) → Asked
 job_of_command command =
-    option_map_or (λ met. asked_of met.0 met.1) command (check None None None false)
+    option_map_or (λ met. asked_of met.0 met.1) command (check None None false)
 
--- what these words ask for, the program's name the first of them
+-- what these words request, with the program's name as the first of them
 abbrev pub job_of_words : List Text → Asked
 job_of_words words = job_of_command (subcommand_of payd_app words)

@@ -2,5 +2,4 @@ pub mod Lines
 pub mod Values
 pub mod CheckText
 pub mod Engine
-pub mod Findings
 pub mod Job

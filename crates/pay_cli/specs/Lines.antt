@@ -1,17 +1,17 @@
 -- The lines of `check`: what a member makes of each frame of a stream.
 use Rattle.std.specs.Prelude.{ℕ, ◌+◌, List, ◌++◌, length, slice_index, slice_set, decimal, codes}
 use Rattle.std.specs.Prelude.{Result, Ok, Err, ⊤}
-use Rattle.pay_frame.specs.declared.fault.FrameFault.{FrameFault}
-use Rattle.pay_frame.specs.declared.kind.Kind.{Kind}
-use Rattle.pay_frame.specs.declared.kind.Kind.TheVariants.{Send, Echo, Ready, Want}
+use Rattle.pay_frame.specs.declared.reading.FrameFault.{FrameFault}
+use Rattle.pay_frame.specs.declared.body.Kind.{Kind}
+use Rattle.pay_frame.specs.declared.body.Kind.TheVariants.{Send, Echo, Ready, Want}
 use Rattle.pay_frame.specs.Fault.{fault_number, name_of}
 use Rattle.pay_frame.specs.Frame.{FrameFields}
-use Rattle.pay_link.specs.declared.link_fault.LinkFault.{LinkFault}
+use Rattle.pay_link.specs.declared.opened.LinkFault.{LinkFault}
 use Rattle.pay_link.specs.Fronts.{turn}
 use Rattle.pay_link.specs.Keys.{KeyFields}
 use Rattle.pay_link.specs.Opening.{OpenedFields, judgement}
 use Rattle.pay_link.specs.Words.{link_words}
-use Rattle.pay_cli.specs.declared.progress.Progress.{Progress}
+use Rattle.pay_cli.specs.declared.check.Progress.{Progress}
 
 abbrev pub kind_word : Kind → List ℕ
 kind_word Send = codes "send"
@@ -34,8 +34,8 @@ want_words f = codes " want from " ++ decimal f.from ++ codes " number " ++ deci
 abbrev pub link_refused_words : LinkFault → List ℕ
 link_refused_words fault = codes " refused " ++ link_words fault
 
--- What becomes of a frame: it opened and is the next of its sender, it opened and is a WANT, or it
--- is refused.
+-- What becomes of a frame: it was authenticated and is the next of its sender, it was authenticated
+-- and is a WANT, or it is refused.
 pub data Outcome : Type 0 where
   Taken : Outcome
   Wanted : Outcome
@@ -45,7 +45,7 @@ abbrev pub turn_outcome : Result ⊤ LinkFault → Outcome
 turn_outcome (Ok _) = Taken
 turn_outcome (Err fault) = Refused fault
 
--- a frame that opened, where this is the next number of its sender
+-- an authenticated frame, if this is the next number of its sender
 abbrev pub opened_outcome : ℕ → FrameFields → Kind → Outcome
 opened_outcome next f Want = Wanted
 opened_outcome next f Send = turn_outcome (turn next f.number)
@@ -56,11 +56,11 @@ abbrev pub judged_outcome : ℕ → FrameFields → Result OpenedFields LinkFaul
 judged_outcome next f (Ok opened) = opened_outcome next f f.body.kind
 judged_outcome next f (Err fault) = Refused fault
 
--- what becomes of a frame, where these are the next numbers of all members
+-- what becomes of a frame, if these are the next numbers of all members
 abbrev pub check_outcome : KeyFields → List ℕ → FrameFields → Outcome
 check_outcome k fronts f = judged_outcome (slice_index fronts f.from) f (judgement k f)
 
--- what `check` says of it, after the number of its line
+-- what `check` says about a frame, after the number of its line
 abbrev pub check_words : FrameFields → Outcome → List ℕ
 check_words f Taken = ok_words f
 check_words f Wanted = want_words f
@@ -70,7 +70,7 @@ check_words f (Refused fault) = link_refused_words fault
 unfoldable pub line_of : KeyFields → Progress → FrameFields → List ℕ
 line_of k p f = decimal p.line ++ check_words f (check_outcome k p.fronts f) ++ codes "\n"
 
--- an `ok` frame moves its sender's next number by one, nothing else does
+-- an `ok` frame moves its sender's next number by one, and nothing else does
 abbrev pub fronts_after : List ℕ → FrameFields → Outcome → List ℕ
 fronts_after fronts f Taken = slice_set fronts f.from (slice_index fronts f.from + 1)
 fronts_after fronts f Wanted = fronts

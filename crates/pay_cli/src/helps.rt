@@ -16,9 +16,6 @@ Input: frames, one after the other, as members send them. Without --genesis ther
 whom one may lie. Without --keys they are judged by member 1, or by member 0 of one alone, with the
 test keys, which anyone can name: 30 zero bytes, then the lesser and the greater of the pair.
 
---jobs says how many threads judge, 1 to 8; without it as many as there are processors, 8 at most. The
-text is the same. They share what one read gives, 1 MiB at most; with 1 no thread is started.
-
 Output: a line for each frame, numbered from 1.
   K ok KIND from P number M owner A seq S value L   taken: the next frame from P
   K want from P number M                            P asks for the frame numbered M
@@ -81,7 +78,8 @@ loses its account.
                   node. Ended in whatever way, the node is started again and goes on: no payment is made
                   twice, and a PAY given again has its old answer. One node has a log at a time, and
                   payd export writes its export. A folder without a log is refused but with
-  --new           makes the member, its log, and the folder where there is none; for its first start
+  --new           makes the member, its log, and the folder where there is none; for its first start.
+                  A node with a folder pays once a quorum of members claimed to know no more of it
   --stay          at the end of the lines a node with a folder goes on until it is killed
 
 A node with a folder also listens on the Unix socket FOLDER/desk, which only the owner may open, for
@@ -103,8 +101,9 @@ started within a few seconds, or with --dials:
 The pauses then grow from 10 milliseconds to a second, each twice the one before. Ports below those that
 the system gives out by itself, mostly 32768 and more, are best.
 
-Standard error has a line that says which member of which group this is, and one when a peer is met, is
-lost, is given up, lied, or when a frame in its name doesn't open: payd: peer 2 met.
+Standard error has a line that says which member of which group this is, one with its folder's absolute
+path, and one when a peer is met, is lost, is given up, lied, or when a frame in its name doesn't open:
+payd: peer 2 met.
 
 Of each peer as many as 256 frames are asked for before the first of them is there, or with --ahead:
   --ahead COUNT    so many, from 1 to 1024: more over a longer way; with 1 each takes it to and fro
@@ -112,25 +111,9 @@ Of each peer as many as 256 frames are asked for before the first of them is the
 Status: 0 at the input's end, 1 where what was told isn't consistent with the member's history, 2 for words
 or a file that can't be read, or a folder that isn't this member's, 3 where memory, a read, a write, the
 own port or the socket fails, another node has the log, or after 1,000,000 reads, 4 where the disk under
-the folder failed or is full, or its log is older than what the group has settled for the member.
+the folder failed or is full, or the group knows more of the member than its log.
 
 Example: payd node --genesis examples/genesis.json --keys examples/keys-0.json --ports examples/ports.json";
-
-pub(crate) const SEND_ABOUT: &str = "Has a node that runs answer lines, for an account's owner";
-
-pub(crate) const SEND_HELP: &str = "\
-Input: lines as those of payd desk, each a word of the command line, or those on standard input. The node
-is named by --data, its folder, or by --socket, the socket on which it listens.
-
-Output: the answers, in order, each once it is there. Of an answer that refuses a payment standard error
-names the ID, and of another one the line's number: payd: refused 7: 4 IdUsed.
-
-Status: 0 where no line was refused, 1 where one was, 2 for words that can't be read, 3 where nobody
-listens there or the socket is another user's, where the node ended before it answered or a line has no
-answer after 10 seconds (--timeout), or where memory, a read or a write fails, or after 1,000,000 reads.
-A line that wasn't answered may be given again: under its ID it pays once.
-
-Example: payd send --data member 'PAY 7 1 30' FRONT";
 
 pub(crate) const EXPORT_ABOUT: &str =
     "Writes the export of a member that a node keeps in a folder, also while it runs";
@@ -151,10 +134,6 @@ pub(crate) const AUDIT_ABOUT: &str =
 
 pub(crate) const AUDIT_HELP: &str = "\
 Input: a file of JSON for each export.
-
---jobs says how many threads read and settle exports, 1 to 8; without it as many as there are processors,
-8 at most. The verdict is the same. As many exports as threads are in memory at once; with 1 no thread is
-started.
 
 Output: one line, in which exports are named by their places from 0: the first of these that there is.
   clean

@@ -1,15 +1,15 @@
-//! Laws of the definitions alone. Each body does nothing but name the laws that it stands on: the
-//! contract is the law.
+//! Laws of the definitions alone. Each body only names the laws that the proof needs: the contract
+//! is the law.
 
 ghost use Rattle.std.specs.Prelude.{◌≡◌, ◌<◌, ℕ, List, Option, length, slice_index, count_by};
-ghost use Rattle.pay_frame.specs.declared.fault.FrameFault.{FrameFault as Fault};
-ghost use Rattle.pay_frame.specs.Frame.{FrameFields};
-ghost use Rattle.pay_frame.specs.Stream.{IsBytes};
 ghost use Rattle.pay_cli.specs.CheckText.{IsCheckText, HasCheckText, at_start, known_after};
 ghost use Rattle.pay_cli.specs.CheckText.{outcomes, is_ok_from};
 ghost use Rattle.pay_cli.specs.Values.{CheckerFields};
+ghost use Rattle.pay_frame.specs.Frame.{FrameFields};
+ghost use Rattle.pay_frame.specs.Stream.{IsBytes};
+ghost use Rattle.pay_frame.specs.declared.reading.FrameFault.{FrameFault as Fault};
 
-/// Any bytes have a text.
+/// States that any bytes have a text.
 // promise: check's text
 pub fn every_text()
     ensures law { (q : CheckerFields) (bytes : List ℕ) → IsBytes bytes → HasCheckText q bytes }
@@ -17,8 +17,8 @@ pub fn every_text()
     pay_frame::every_stream();
 }
 
-/// Bytes have one text, and one fault that it ends with: both depend on who checks and the bytes
-/// alone, and on no cut.
+/// States that bytes have one text, and one fault that it ends with. Both depend only on the
+/// checker and the bytes, and not on how the bytes are cut.
 // promise: check's text
 pub fn one_text()
     ensures text { (q : CheckerFields) (bytes one two : List ℕ) (a b : Option Fault) →
@@ -29,7 +29,7 @@ pub fn one_text()
     pay_frame::one_stream();
 }
 
-/// The next number of a member is the count of its `ok` lines before.
+/// States that the next number of a member is the count of its `ok` lines before.
 // promise: check's text
 pub fn next_is_ok_lines_before()
     ensures law { (q : CheckerFields) (before : List FrameFields) (member : ℕ) →

@@ -1,5 +1,5 @@
-//! The words of the program, and the engine of its command `check`: a line for each frame of a
-//! stream, which several threads may judge, and one for what its value pays, where that is asked.
+//! The words of the program, and the loop of its command `check`. It writes a line for each frame
+//! of a stream, and a line for what its value pays, if that is requested.
 //!
 //! ```
 //! let job = job_of(alloc, words.as_slice())?;
@@ -9,27 +9,12 @@
 #![tactic(auto)]
 
 mod check;
-mod checker;
-mod checking;
-mod cores;
-mod finding;
 mod helps;
-mod job;
-mod jobs;
-mod judging;
 mod laws;
-mod lines;
-mod progress;
-mod sharing;
-mod turns;
 mod values;
 mod words;
 
-pub use check::{run_check, run_check_by};
-pub use checker::Checker;
+pub use check::{Checker, Progress, run_check};
 pub use helps::{NOT_UTF8, VERSION};
-pub use job::{Job, NodeWords, SendWords};
-pub use jobs::Jobs;
 pub use laws::{every_text, next_is_ok_lines_before, one_text};
-pub use progress::Progress;
-pub use words::job_of;
+pub use words::{Job, NodeWords, job_of};

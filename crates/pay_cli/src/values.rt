@@ -1,18 +1,19 @@
-//! What the values of frames pay, appended to what is written already.
+//! The lines about what the values of frames pay.
 
 ghost use Rattle.std.specs.Prelude.{◌≡◌, ◌++◌, OnOk};
 ghost use Rattle.std.specs.List.{flat_map};
 ghost use Rattle.pay_book.specs.Payment.{entries_in};
 ghost use Rattle.pay_cli.specs.Values.{checker_of, payee_and_amount, pays_line, told_line};
 
-use crate::checker::Checker;
+use crate::check::Checker;
 use pay_book::laws::values_count_their_entries;
 use pay_book::{Entry, entries_in, entry_at};
 use pay_frame::Kind;
 use pay_text::{push_number, push_word};
 use std::alloc::AllocError;
 
-/// The line of what a frame's value pays, if it has one and that is asked for.
+/// Appends the line about `value`, a frame's, to `out`, if a frame of this `kind` has a value and
+/// the line is requested.
 #[tactic(auto, unfolding(crate::specs::Values::told_line))]
 // promise: check's text
 pub fn push_told(
@@ -31,7 +32,8 @@ pub fn push_told(
     push_pays(out, checker.keys.members(), owner, value)
 }
 
-/// The line of what a value pays in the list of this owner, among this many accounts.
+/// Appends the line about a value to `out`: what it pays in the list of `owner`, among this many
+/// `accounts`.
 fn push_pays(out: &mut Vec<u8>, accounts: u16, owner: u16, value: &[u8]) -> Result<(), AllocError>
     ensures { OnOk result (out.new.items ≡ out.old.items ++ pays_line accounts owner value.now) }
 {
@@ -40,7 +42,7 @@ fn push_pays(out: &mut Vec<u8>, accounts: u16, owner: u16, value: &[u8]) -> Resu
     push_word(out, "\n")
 }
 
-/// What each entry of a value pays, and whom.
+/// Appends what each entry of a value pays, and to whom.
 fn push_entries(
     out: &mut Vec<u8>,
     accounts: u16,
@@ -50,7 +52,7 @@ fn push_entries(
     ensures { OnOk result (out.new.items ≡ out.old.items
         ++ flat_map payee_and_amount (entries_in accounts owner value.now)) }
 {
-    // a law that the proof stands on: the call does nothing
+    // for the proof, a law: the call does nothing
     values_count_their_entries();
     for place in 0..entries_in(value) {
         push_entry(out, entry_at(value, place, owner, accounts))?;

@@ -1,4 +1,4 @@
-//! What the words of the program ask for, as `clap` reads them.
+//! What the program is told to do, according to its words as `clap` reads them.
 
 ghost use Rattle.std.specs.Prelude.{◌≡◌, IfOk, IsOkAnd, map, option_map, string_bytes};
 ghost use Rattle.clap.specs.Words.{AddsSubcommand, FailsBy, fault_of, first_of, found_of, new_app};
@@ -7,22 +7,90 @@ ghost use Rattle.pay_cli.specs.Job.{account_rule, asked_of, audit_app, audit_ask
 ghost use Rattle.pay_cli.specs.Job.{book_asked, check_app, check_asked, desk_app, desk_asked};
 ghost use Rattle.pay_cli.specs.Job.{export_app, export_asked, export_rule, files_of, files_rule};
 ghost use Rattle.pay_cli.specs.Job.{flag_rule, is_set, IsArgument, IsCommand, job_of_command};
-ghost use Rattle.pay_cli.specs.Job.{job_of_words, journal_app, journal_asked, lines_rule, node_app};
-ghost use Rattle.pay_cli.specs.Job.{node_asked, option_rule, payd_alone, payd_app, required_rule};
-ghost use Rattle.pay_cli.specs.Job.{required_text, send_app, send_asked, statement_app};
-ghost use Rattle.pay_cli.specs.Job.{statement_asked, texts_of_lines, view_of_job};
+ghost use Rattle.pay_cli.specs.Job.{job_of_words, journal_app, journal_asked, node_app, node_asked};
+ghost use Rattle.pay_cli.specs.Job.{option_rule, payd_alone, payd_app, required_rule};
+ghost use Rattle.pay_cli.specs.Job.{required_text, statement_app, statement_asked, view_of_job};
 
 use crate::helps::{
     ABOUT, AUDIT_ABOUT, AUDIT_HELP, BOOK_ABOUT, BOOK_HELP, CHECK_ABOUT, CHECK_HELP, DESK_ABOUT,
     DESK_HELP, EXPORT_ABOUT, EXPORT_HELP, JOURNAL_ABOUT, JOURNAL_HELP, NODE_ABOUT, NODE_HELP,
-    SEND_ABOUT, SEND_HELP, SIM_ABOUT, SIM_HELP, STATEMENT_ABOUT, STATEMENT_HELP, VERSION,
+    SIM_ABOUT, SIM_HELP, STATEMENT_ABOUT, STATEMENT_HELP, VERSION,
 };
-use crate::job::{Job, NodeWords, SendWords};
 use clap::{Arg, ArgAction, ArgMatches, Command, Error};
 use std::alloc::{AllocError, Global};
 
-/// What the words ask for, the program's name the first of them; or help, the version, or what is
-/// wrong with them. Without a command it is `check`.
+/// What the program is told to do.
+#[derive(Drop)]
+pub enum Job<'a> {
+    /// Judge the frames on standard input, as a member of this genesis with these keys. Each is
+    /// read from the file of this name. Tell what values pay, if that is requested.
+    Check {
+        genesis: Option<&'a str>,
+        keys: Option<&'a str>,
+        tells_values: bool,
+    },
+    /// Answer the lines on standard input, as the desk of the member with these keys. Each is read
+    /// from the file of this name.
+    Desk {
+        genesis: &'a str,
+        keys: &'a str,
+    },
+    /// Answer these lines over a node of that member among its peers, as these words say.
+    Node(NodeWords<'a>),
+    /// Write the export of that member from the folder of this name.
+    Export {
+        genesis: &'a str,
+        keys: &'a str,
+        folder: &'a str,
+    },
+    /// Say what is wrong with the exports in the files of these names, if anything is, or all that
+    /// is wrong with them.
+    Audit {
+        files: Vec<&'a str>,
+        all: bool,
+    },
+    /// Write the group ledger of the exports in the files of these names: in lines, or as a genesis
+    /// or an export.
+    Book {
+        files: Vec<&'a str>,
+        as_genesis: bool,
+        as_export: bool,
+    },
+    /// Write the statement of this account, or of all, from the export in the file of this name.
+    Statement {
+        export: &'a str,
+        account: Option<&'a str>,
+    },
+    /// Write the journal of the export in the file of this name, on this date or on today's.
+    Journal {
+        export: &'a str,
+        date: Option<&'a str>,
+    },
+    /// Play the script on standard input.
+    Sim,
+}
+
+/// The words of a node.
+#[derive(Clone, Copy, Debug)]
+pub struct NodeWords<'a> {
+    /// The names of the files of genesis, keys and ports.
+    pub genesis: &'a str,
+    pub keys: &'a str,
+    pub ports: &'a str,
+    /// How often the node connects to a peer, and its pipelining depth.
+    pub dials: Option<&'a str>,
+    pub ahead: Option<&'a str>,
+    /// The folder of the member, if one is named, whether the member is made there, and whether it
+    /// stays when the lines end.
+    pub folder: Option<&'a str>,
+    pub makes_new: bool,
+    pub stays: bool,
+    /// The socket for clients of its desk, if one is named.
+    pub socket: Option<&'a str>,
+}
+
+/// Returns what `words` request. The first of them is the program's name. Otherwise it returns
+/// help, the version, or what is wrong with the words. Without a command the job is `check`.
 // promise: words and files
 pub fn job_of<'a>(alloc: Global, words: &'a [String]) -> Result<Job<'a>, Error>
     ensures value { IfOk result
@@ -33,7 +101,7 @@ pub fn job_of<'a>(alloc: Global, words: &'a [String]) -> Result<Job<'a>, Error>
     Ok(job_in(alloc, &matches)?)
 }
 
-/// What the words match, or why they don't.
+/// Returns what `words` match, or why they don't.
 fn matches_of<'a>(alloc: Global, words: &'a [String]) -> Result<ArgMatches<'a>, Error>
     ensures command { IfOk result (λ matches.
         subcommand_rows_of matches ≡ subcommand_of payd_app (map string_bytes words.now)) }
@@ -43,7 +111,7 @@ fn matches_of<'a>(alloc: Global, words: &'a [String]) -> Result<ArgMatches<'a>, 
     command.try_get_matches_from(words)
 }
 
-/// The job of the command that was met, and `check` where there is none.
+/// Returns the job of the command in `matches`, and `check` if there is none.
 fn job_in<'a>(alloc: Global, matches: &ArgMatches<'a>) -> Result<Job<'a>, AllocError>
     ensures { IfOk result
         (λ job. view_of_job job ≡ job_of_command (subcommand_rows_of matches.now)) }
@@ -53,13 +121,12 @@ fn job_in<'a>(alloc: Global, matches: &ArgMatches<'a>) -> Result<Job<'a>, AllocE
         None => Ok(Job::Check {
             genesis: None,
             keys: None,
-            jobs: None,
             tells_values: false,
         }),
     }
 }
 
-/// The job of the command of this name.
+/// Returns the job of the command `name`.
 fn command_job<'a>(
     alloc: Global,
     name: &str,
@@ -72,8 +139,6 @@ fn command_job<'a>(
         Ok(desk_job(command))
     } else if name == "node" {
         Ok(node_job(command))
-    } else if name == "send" {
-        send_job(alloc, command)
     } else if name == "export" {
         Ok(export_job(command))
     } else if name == "audit" {
@@ -91,19 +156,18 @@ fn command_job<'a>(
     }
 }
 
-/// The job of `check` with these options.
+/// Returns the job of `check` with these options.
 fn check_job<'a>(check: &ArgMatches<'a>) -> Job<'a>
     ensures { view_of_job result ≡ check_asked (rows_of (found_of check.now)) }
 {
     Job::Check {
         genesis: option_value(check, "genesis"),
         keys: option_value(check, "keys"),
-        jobs: option_value(check, "jobs"),
         tells_values: is_set(check, "values"),
     }
 }
 
-/// The job of `desk` with these options.
+/// Returns the job of `desk` with these options.
 fn desk_job<'a>(desk: &ArgMatches<'a>) -> Job<'a>
     ensures { view_of_job result ≡ desk_asked (rows_of (found_of desk.now)) }
 {
@@ -113,7 +177,7 @@ fn desk_job<'a>(desk: &ArgMatches<'a>) -> Job<'a>
     }
 }
 
-/// The job of `node` with these options.
+/// Returns the job of `node` with these options.
 fn node_job<'a>(node: &ArgMatches<'a>) -> Job<'a>
     ensures { view_of_job result ≡ node_asked (rows_of (found_of node.now)) }
 {
@@ -130,19 +194,7 @@ fn node_job<'a>(node: &ArgMatches<'a>) -> Job<'a>
     })
 }
 
-/// The job of `send` with these lines and options.
-fn send_job<'a>(alloc: Global, send: &ArgMatches<'a>) -> Result<Job<'a>, AllocError>
-    ensures { IfOk result (λ job. view_of_job job ≡ send_asked (rows_of (found_of send.now))) }
-{
-    Ok(Job::Send(SendWords {
-        lines: lines_in(alloc, send)?,
-        folder: option_value(send, "data"),
-        socket: option_value(send, "socket"),
-        timeout: option_value(send, "timeout"),
-    }))
-}
-
-/// The job of `export` with these options.
+/// Returns the job of `export` with these options.
 fn export_job<'a>(export: &ArgMatches<'a>) -> Job<'a>
     ensures { view_of_job result ≡ export_asked (rows_of (found_of export.now)) }
 {
@@ -153,18 +205,17 @@ fn export_job<'a>(export: &ArgMatches<'a>) -> Job<'a>
     }
 }
 
-/// The job of `audit` with these files and options.
+/// Returns the job of `audit` with these files and options.
 fn audit_job<'a>(alloc: Global, audit: &ArgMatches<'a>) -> Result<Job<'a>, AllocError>
     ensures { IfOk result (λ job. view_of_job job ≡ audit_asked (rows_of (found_of audit.now))) }
 {
     Ok(Job::Audit {
         files: files_in(alloc, audit)?,
-        jobs: option_value(audit, "jobs"),
         all: is_set(audit, "all"),
     })
 }
 
-/// The job of `book` with these files and flags.
+/// Returns the job of `book` with these files and flags.
 fn book_job<'a>(alloc: Global, book: &ArgMatches<'a>) -> Result<Job<'a>, AllocError>
     ensures { IfOk result (λ job. view_of_job job ≡ book_asked (rows_of (found_of book.now))) }
 {
@@ -175,7 +226,7 @@ fn book_job<'a>(alloc: Global, book: &ArgMatches<'a>) -> Result<Job<'a>, AllocEr
     })
 }
 
-/// The names of files that a command was given.
+/// Returns the names of files that a command was given.
 fn files_in<'a>(alloc: Global, command: &ArgMatches<'a>) -> Result<Vec<&'a str>, AllocError>
     ensures { IfOk result (λ files.
         map (λ name. name.now) files.items ≡ files_of (rows_of (found_of command.now))) }
@@ -186,18 +237,7 @@ fn files_in<'a>(alloc: Global, command: &ArgMatches<'a>) -> Result<Vec<&'a str>,
     }
 }
 
-/// The lines that a command was given.
-fn lines_in<'a>(alloc: Global, command: &ArgMatches<'a>) -> Result<Vec<&'a str>, AllocError>
-    ensures { IfOk result (λ lines.
-        map (λ line. line.now) lines.items ≡ texts_of_lines (rows_of (found_of command.now))) }
-{
-    match command.get_strs("lines") {
-        Some(lines) => Ok(Vec::from_slice(alloc, lines)?),
-        None => Ok(Vec::new(alloc)),
-    }
-}
-
-/// The job of `statement` with this export and account.
+/// Returns the job of `statement` with this export and account.
 fn statement_job<'a>(statement: &ArgMatches<'a>) -> Job<'a>
     ensures { view_of_job result ≡ statement_asked (rows_of (found_of statement.now)) }
 {
@@ -207,7 +247,7 @@ fn statement_job<'a>(statement: &ArgMatches<'a>) -> Job<'a>
     }
 }
 
-/// The job of `journal` with this export and date.
+/// Returns the job of `journal` with this export and date.
 fn journal_job<'a>(journal: &ArgMatches<'a>) -> Job<'a>
     ensures { view_of_job result ≡ journal_asked (rows_of (found_of journal.now)) }
 {
@@ -217,7 +257,7 @@ fn journal_job<'a>(journal: &ArgMatches<'a>) -> Job<'a>
     }
 }
 
-/// What an option says, if it was given.
+/// Returns the value of `option`, if it was given.
 fn option_value<'a>(matches: &ArgMatches<'a>, option: &str) -> Option<&'a str>
     ensures { option_map (λ word. word.now) result
         ≡ first_of option.now (rows_of (found_of matches.now)) }
@@ -225,7 +265,7 @@ fn option_value<'a>(matches: &ArgMatches<'a>, option: &str) -> Option<&'a str>
     matches.get_str(option)
 }
 
-/// Whether a flag was given.
+/// Returns whether `flag` was given.
 fn is_set(matches: &ArgMatches, flag: &str) -> bool
     ensures { result ≡ is_set flag.now (rows_of (found_of matches.now)) }
 {
@@ -235,21 +275,20 @@ fn is_set(matches: &ArgMatches, flag: &str) -> bool
     }
 }
 
-/// What a required option names: the words aren't read without it.
+/// Returns the value of a required option: the words aren't read without it.
 fn required_value<'a>(matches: &ArgMatches<'a>, option: &str) -> &'a str
     ensures { result.now ≡ required_text option.now (rows_of (found_of matches.now)) }
 {
     matches.get_str(option).unwrap_or("")
 }
 
-/// The program and its commands.
+/// Returns the program and its commands.
 fn payd<'a>(alloc: Global) -> Result<Command<'a>, AllocError>
     ensures { IfOk result (λ command. IsCommand command payd_app) }
 {
     let program = with_command(Ok(payd_alone(alloc)), check(alloc));
     let program = with_command(program, desk(alloc));
     let program = with_command(program, node(alloc));
-    let program = with_command(program, send(alloc));
     let program = with_command(program, exporting(alloc));
     let program = with_command(program, audit(alloc));
     let program = with_command(program, book(alloc));
@@ -261,7 +300,7 @@ fn payd<'a>(alloc: Global) -> Result<Command<'a>, AllocError>
     )
 }
 
-/// The program with one command more, if both could be made.
+/// Returns the program with one more command, if both could be made.
 fn with_command<'a>(
     program: Result<Command<'a>, AllocError>,
     command: Result<Command<'a>, AllocError>,
@@ -281,18 +320,17 @@ fn payd_alone<'a>(alloc: Global) -> Command<'a>
         .disable_help_subcommand(true)
 }
 
-/// The command `check` and its options.
+/// Returns the command `check` and its options.
 fn check<'a>(alloc: Global) -> Result<Command<'a>, AllocError>
     ensures { IfOk result (λ command. IsCommand command check_app) }
 {
     titled_command(alloc, "check", CHECK_ABOUT, CHECK_HELP)
         .arg(file_option(alloc, "genesis", "A file of JSON with the genesis"))?
         .arg(file_option(alloc, "keys", "A file of JSON with the keys of one member"))?
-        .arg(option(alloc, "jobs", "COUNT", "How many threads judge the frames"))?
         .arg(flag(alloc, "values", "Tells what the value of each frame pays"))
 }
 
-/// The command `desk` and its options.
+/// Returns the command `desk` and its options.
 fn desk<'a>(alloc: Global) -> Result<Command<'a>, AllocError>
     ensures { IfOk result (λ command. IsCommand command desk_app) }
 {
@@ -301,7 +339,7 @@ fn desk<'a>(alloc: Global) -> Result<Command<'a>, AllocError>
         .arg(required_file(alloc, "keys", "A file of JSON with the keys of one member"))
 }
 
-/// The command `node` and its options.
+/// Returns the command `node` and its options.
 fn node<'a>(alloc: Global) -> Result<Command<'a>, AllocError>
     ensures { IfOk result (λ command. IsCommand command node_app) }
 {
@@ -345,23 +383,7 @@ fn node<'a>(alloc: Global) -> Result<Command<'a>, AllocError>
         ))
 }
 
-/// The command `send`, its lines and its options.
-fn send<'a>(alloc: Global) -> Result<Command<'a>, AllocError>
-    ensures { IfOk result (λ command. IsCommand command send_app) }
-{
-    titled_command(alloc, "send", SEND_ABOUT, SEND_HELP)
-        .arg(lines(alloc))?
-        .arg(option(alloc, "data", "FOLDER", "The folder of the node"))?
-        .arg(option(alloc, "socket", "PATH", "The socket of the node"))?
-        .arg(option(
-            alloc,
-            "timeout",
-            "SECONDS",
-            "How long to wait for an answer; 10 without it",
-        ))
-}
-
-/// The command `export` and its options.
+/// Returns the command `export` and its options.
 fn exporting<'a>(alloc: Global) -> Result<Command<'a>, AllocError>
     ensures { IfOk result (λ command. IsCommand command export_app) }
 {
@@ -371,17 +393,16 @@ fn exporting<'a>(alloc: Global) -> Result<Command<'a>, AllocError>
         .arg(required_folder(alloc, "data", "The folder in which the member is kept"))
 }
 
-/// The command `audit`, its files and its options.
+/// Returns the command `audit`, its files and its options.
 fn audit<'a>(alloc: Global) -> Result<Command<'a>, AllocError>
     ensures { IfOk result (λ command. IsCommand command audit_app) }
 {
     titled_command(alloc, "audit", AUDIT_ABOUT, AUDIT_HELP)
         .arg(files(alloc))?
-        .arg(option(alloc, "jobs", "COUNT", "How many threads read exports"))?
         .arg(flag(alloc, "all", "Names all that is wrong, by the files"))
 }
 
-/// The command `book`, its files and its flags.
+/// Returns the command `book`, its files and its flags.
 fn book<'a>(alloc: Global) -> Result<Command<'a>, AllocError>
     ensures { IfOk result (λ command. IsCommand command book_app) }
 {
@@ -399,7 +420,7 @@ fn book<'a>(alloc: Global) -> Result<Command<'a>, AllocError>
         ))
 }
 
-/// The command `statement`, its export and its account.
+/// Returns the command `statement`, its export and its account.
 fn statement<'a>(alloc: Global) -> Result<Command<'a>, AllocError>
     ensures { IfOk result (λ command. IsCommand command statement_app) }
 {
@@ -408,7 +429,7 @@ fn statement<'a>(alloc: Global) -> Result<Command<'a>, AllocError>
         .arg(account(alloc))
 }
 
-/// The command `journal`, its export and its date.
+/// Returns the command `journal`, its export and its date.
 fn journal<'a>(alloc: Global) -> Result<Command<'a>, AllocError>
     ensures { IfOk result (λ command. IsCommand command journal_app) }
 {
@@ -417,42 +438,42 @@ fn journal<'a>(alloc: Global) -> Result<Command<'a>, AllocError>
         .arg(option(alloc, "date", "YYYY-MM-DD", "The date of all transactions"))
 }
 
-/// A command without options, and what its help says.
+/// Returns a command without options, and the text of its help.
 fn titled_command<'a>(alloc: Global, name: &'a str, about: &'a str, help: &'a str) -> Command<'a>
     ensures { IsCommand result (new_app name.entry.now) }
 {
     Command::new(alloc, name).about(about).after_help(help)
 }
 
-/// An option that takes the name of a file.
+/// Returns an option with the name of a file.
 fn file_option<'a>(alloc: Global, name: &'a str, help: &'a str) -> Arg<'a>
     ensures { IsArgument result (option_rule name.entry.now) }
 {
     option(alloc, name, "FILE", help)
 }
 
-/// An option that takes a word.
+/// Returns an option with a word.
 fn option<'a>(alloc: Global, name: &'a str, word: &'a str, help: &'a str) -> Arg<'a>
     ensures { IsArgument result (option_rule name.entry.now) }
 {
     Arg::new(alloc, name).long(name).value_name(word).help(help)
 }
 
-/// An option that takes the name of a file, and that has to be there.
+/// Returns a required option with the name of a file.
 fn required_file<'a>(alloc: Global, name: &'a str, help: &'a str) -> Arg<'a>
     ensures { IsArgument result (required_rule name.entry.now) }
 {
     file_option(alloc, name, help).required(true)
 }
 
-/// An option that takes the name of a folder, and that has to be there.
+/// Returns a required option with the name of a folder.
 fn required_folder<'a>(alloc: Global, name: &'a str, help: &'a str) -> Arg<'a>
     ensures { IsArgument result (required_rule name.entry.now) }
 {
     option(alloc, name, "FOLDER", help).required(true)
 }
 
-/// An option that takes no word.
+/// Returns an option without a word.
 fn flag<'a>(alloc: Global, name: &'a str, help: &'a str) -> Arg<'a>
     ensures { IsArgument result (flag_rule name.entry.now) }
 {
@@ -462,7 +483,7 @@ fn flag<'a>(alloc: Global, name: &'a str, help: &'a str) -> Arg<'a>
         .help(help)
 }
 
-/// The name of a file with an export.
+/// Returns the name of a file with an export.
 fn export<'a>(alloc: Global) -> Arg<'a>
     ensures { IsArgument result export_rule }
 {
@@ -472,7 +493,7 @@ fn export<'a>(alloc: Global) -> Arg<'a>
         .help("A file of JSON with an export")
 }
 
-/// The number of an account.
+/// Returns the number of an account.
 fn account<'a>(alloc: Global) -> Arg<'a>
     ensures { IsArgument result account_rule }
 {
@@ -481,7 +502,7 @@ fn account<'a>(alloc: Global) -> Arg<'a>
         .help("An account's number")
 }
 
-/// The names of one or more files.
+/// Returns the names of one or more files.
 fn files<'a>(alloc: Global) -> Arg<'a>
     ensures { IsArgument result files_rule }
 {
@@ -490,14 +511,4 @@ fn files<'a>(alloc: Global) -> Arg<'a>
         .action(ArgAction::Append)
         .value_name("FILE")
         .help("A file of JSON with an export")
-}
-
-/// Lines for a desk.
-fn lines<'a>(alloc: Global) -> Arg<'a>
-    ensures { IsArgument result lines_rule }
-{
-    Arg::new(alloc, "lines")
-        .action(ArgAction::Append)
-        .value_name("LINE")
-        .help("A line for the desk, in place of standard input")
 }

@@ -9,8 +9,8 @@ use Rattle.std.proofs.lemmas.Slice.Eq.{bytes_eq-Decides}
 use Rattle.pay_book.specs.declared.payment.Payment.{Payment}
 use Rattle.pay_book.specs.Payment.{names_payee, payment_named}
 use Rattle.pay_book.specs.Laws.{AreApart, FitsBytes}
-use Rattle.pay_desk.specs.declared.payments.Payments.{Payments}
-use Rattle.pay_desk.specs.declared.payments.Payments.TheVariants.{One, Several}
+use Rattle.pay_desk.specs.declared.command.Payments.{Payments}
+use Rattle.pay_desk.specs.declared.command.Payments.TheVariants.{One, Several}
 use Rattle.pay_desk.specs.Kept.{is_value}
 use Rattle.pay_desk.specs.Laws.{AreOfLine, KeptAnswersItsOwn}
 use Rattle.pay_desk.specs.Payments.{pairs_of, value_of_payments, if_named}

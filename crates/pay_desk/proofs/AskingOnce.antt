@@ -9,15 +9,15 @@ use Rattle.pay_desk.specs.declared.command.Order.{Order}
 use Rattle.pay_desk.specs.declared.desk.Desk.{Desk}
 use Rattle.pay_desk.specs.declared.fault.DeskFault.{DeskFault}
 use Rattle.pay_desk.specs.declared.kept.Kept.{Kept}
-use Rattle.pay_desk.specs.declared.teller_fault.TellerFault.{TellerFault}
-use Rattle.pay_desk.specs.declared.teller_fault.TellerFault.TheVariants.{Memory, Spent, TooEarly, Forgotten}
-use Rattle.pay_desk.specs.declared.teller_fault.ReadFault.{ReadFault}
-use Rattle.pay_desk.specs.declared.teller_fault.ReadFault.TheVariants as read
-use Rattle.pay_member.specs.declared.query_fault.QueryFault.{QueryFault}
-use Rattle.pay_member.specs.declared.query_fault.QueryFault.TheVariants as query
+use Rattle.pay_desk.specs.declared.fault.TellerFault.{TellerFault}
+use Rattle.pay_desk.specs.declared.fault.TellerFault.TheVariants.{Memory, Spent, TooEarly, Forgotten}
+use Rattle.pay_desk.specs.declared.fault.ReadFault.{ReadFault}
+use Rattle.pay_desk.specs.declared.fault.ReadFault.TheVariants as read
+use Rattle.pay_member.specs.declared.fault.QueryFault.{QueryFault}
+use Rattle.pay_member.specs.declared.fault.QueryFault.TheVariants as query
 use Rattle.pay_member.specs.declared.reading.Reading.{Reading}
 use Rattle.pay_member.specs.declared.reading.Reading.TheVariants as reading
-use Rattle.pay_member.specs.declared.told.Told.{Told}
+use Rattle.pay_member.specs.declared.event.Told.{Told}
 use Rattle.pay_desk.specs.Answers.{AnswersCommand, AnswersPay, AnswersNote, Broadcasts, GaveUp, TellsAnswer, TellsBalance, Unless, account_fault, pay_fault}
 use Rattle.pay_desk.specs.Calls as call
 use Rattle.pay_desk.specs.Calls.{Asks, Exchange, Queries, AsksQuestion, values_asked_by, reads_at_length}

@@ -7,5 +7,3 @@ mod Apart
 mod Texts
 mod Joining
 mod NoteValues
-pub mod RowMoves
-pub mod Clients

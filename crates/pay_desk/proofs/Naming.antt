@@ -7,8 +7,8 @@ use Rattle.pay_book.specs.declared.payment.Payment.{Payment}
 use Rattle.pay_book.specs.declared.payment.TheConstants.{MOST_PAYMENTS}
 use Rattle.pay_book.specs.Payment.{names_payee, payment_named, payments_named, payments_value}
 use Rattle.pay_desk.specs.declared.fault.DeskFault.TheVariants.{NoAccount}
-use Rattle.pay_desk.specs.declared.payments.Payments.{Payments}
-use Rattle.pay_desk.specs.declared.payments.Payments.TheVariants.{Several}
+use Rattle.pay_desk.specs.declared.command.Payments.{Payments}
+use Rattle.pay_desk.specs.declared.command.Payments.TheVariants.{Several}
 use Rattle.pay_desk.specs.Payments.{if_named, pairs_of, value_of_payments}
 use Rattle.pay_desk.specs.Answers.{is_account, pay_fault}
 

@@ -9,8 +9,8 @@ use Rattle.pay_book.specs.declared.payment.TheConstants.{PAYMENT_LENGTH, PAYMENT
 use Rattle.pay_book.specs.Payment.{entries_in, entry_of, is_several, names_payee, payment_value, payments_value}
 use Rattle.pay_frame.specs.declared.limits.TheConstants.{GREATEST_VALUE}
 use Rattle.pay_book.specs.declared.note.TheConstants.{MOST_NOTE}
-use Rattle.pay_desk.specs.declared.payments.Payments.{Payments}
-use Rattle.pay_desk.specs.declared.payments.Payments.TheVariants.{One, Several}
+use Rattle.pay_desk.specs.declared.command.Payments.{Payments}
+use Rattle.pay_desk.specs.declared.command.Payments.TheVariants.{One, Several}
 use Rattle.pay_desk.specs.Kept.{is_value}
 use Rattle.pay_desk.specs.Laws.{KeptAnswersItsNote}
 use Rattle.pay_book.specs.Notes.{note_value}

@@ -1,14 +1,13 @@
--- What a desk answers to a line, as a function of what it keeps, the line, and what its teller
--- replies.
+-- What a desk answers to a line, as a function of what it keeps, the line, and its teller's reply.
 use Rattle.std.specs.Prelude.{◌≡◌, ℕ, ◌==◌, ◌||◌, nat_lt, Bool, true, List, Option, Some, None}
 use Rattle.std.specs.Prelude.{Result, Ok, Err, if◌then◌else◌, ◌⊎◌}
 use Rattle.std.specs.List.{list_all, list_any}
 use Rattle.pay_book.specs.Statement.{StatementFields}
-use Rattle.pay_member.specs.declared.query_fault.QueryFault.{QueryFault}
-use Rattle.pay_member.specs.declared.query_fault.QueryFault.TheVariants as query
+use Rattle.pay_member.specs.declared.fault.QueryFault.{QueryFault}
+use Rattle.pay_member.specs.declared.fault.QueryFault.TheVariants as query
 use Rattle.pay_member.specs.declared.reading.Reading.{Reading}
 use Rattle.pay_member.specs.declared.reading.Reading.TheVariants as reading
-use Rattle.pay_member.specs.declared.told.Told.{Told}
+use Rattle.pay_member.specs.declared.event.Told.{Told}
 use Rattle.pay_desk.specs.declared.command.Command.{Command}
 use Rattle.pay_desk.specs.declared.command.Command.TheVariants.{Pay, Note, Balance, State}
 use Rattle.pay_desk.specs.declared.command.Command.TheVariants.{Statement, Entries, Waiting, Front}
@@ -18,9 +17,9 @@ use Rattle.pay_desk.specs.declared.fault.DeskFault.{DeskFault}
 use Rattle.pay_desk.specs.declared.fault.DeskFault.TheVariants.{BadLine, NoAccount, ZeroOrSelf}
 use Rattle.pay_desk.specs.declared.fault.DeskFault.TheVariants.{IdUsed, Memory, Forgotten}
 use Rattle.pay_desk.specs.declared.kept.Kept.{Kept}
-use Rattle.pay_desk.specs.declared.teller_fault.ReadFault.{ReadFault}
-use Rattle.pay_desk.specs.declared.teller_fault.ReadFault.TheVariants as read
-use Rattle.pay_desk.specs.declared.teller_fault.TellerFault.{TellerFault}
+use Rattle.pay_desk.specs.declared.fault.ReadFault.{ReadFault}
+use Rattle.pay_desk.specs.declared.fault.ReadFault.TheVariants as read
+use Rattle.pay_desk.specs.declared.fault.TellerFault.{TellerFault}
 use Rattle.pay_desk.specs.Calls.{Exchange, Asks, Queries, AsksQuestion, reads_at_length}
 use Rattle.pay_desk.specs.Faults.{desk_fault_of}
 use Rattle.pay_desk.specs.Kept.{kept_under, is_value, kept_after}
@@ -29,25 +28,25 @@ use Rattle.pay_desk.specs.Payments.{pairs_of, value_of_payments, if_named}
 use Rattle.pay_desk.specs.Words.{refused_words, asked_words, balance_words, state_words}
 use Rattle.pay_desk.specs.Words.{statement_words, settled_words, waiting_words, front_words}
 
--- ---- the words by what the teller replied
+-- ---- the words for the teller's reply
 
--- of a value that was asked for
+-- the words for a submitted value
 abbrev pub asked_or_refused : ℕ → Result ℕ TellerFault → List ℕ
 asked_or_refused id (Ok seq) = asked_words id seq
 asked_or_refused id (Err fault) = refused_words (desk_fault_of fault)
 
--- of an account's state
+-- the words for an account's state
 abbrev pub balance_or_refused : ℕ → Result Told QueryFault → List ℕ
 balance_or_refused account (Ok told) = balance_words account told.balance
 balance_or_refused account (Err query.NoAccount) = refused_words NoAccount
 balance_or_refused account (Err query.Memory) = refused_words Memory
 
--- of an answer that there is only about an account that is there
+-- the words for an answer that exists only about an existing account
 abbrev pub if_there : {X : Type 0} → (X → List ℕ) → Option X → List ℕ
 if_there words (Some answer) = words answer
 if_there words None = refused_words NoAccount
 
--- of what was read
+-- the words for what was read
 abbrev pub read_or_refused : {A : Type 0} → (A → List ℕ) → Result A ReadFault → List ℕ
 read_or_refused words (Ok answer) = words answer
 read_or_refused words (Err read.Forgotten) = refused_words Forgotten
@@ -56,25 +55,25 @@ read_or_refused words (Err read.Memory) = refused_words Memory
 abbrev pub stated_words : ℕ → StatementFields → List ℕ
 stated_words account statement = statement_words account statement.lines statement.balance
 
--- a kept id: the value that was asked for has the answer that it had, and another one none
+-- a kept id: the submitted value has the answer that it had, and another value none
 abbrev pub kept_words : Kept → ℕ → Option (List ℕ) → List ℕ
 kept_words kept id value =
     if is_value value kept.value then asked_words id kept.seq else refused_words IdUsed
 
--- ---- refusals before the teller is asked
+-- ---- refusals before the teller is called
 
 abbrev pub account_fault : ℕ → ℕ → Option DeskFault
 account_fault accounts account = if nat_lt account accounts then None else Some NoAccount
 
--- of a payee and an amount: the payee is there
+-- the payee of a payee and an amount exists
 abbrev pub is_account : ℕ → ℕ × ℕ → Bool
 is_account accounts pair = nat_lt pair.0 accounts
 
--- nothing is paid, or to the own account
+-- nothing is paid, or the member's own account
 abbrev pub is_void : ℕ → ℕ × ℕ → Bool
 is_void own pair = (pair.1 == 0) || (pair.0 == own)
 
--- All payees are looked at before any amount.
+-- All payees are tested before any amount.
 abbrev pub pay_fault : ℕ → ℕ → List (ℕ × ℕ) → Option DeskFault
 pay_fault accounts own pairs =
     if list_all (is_account accounts) pairs
@@ -89,12 +88,12 @@ pub record IsRefused {T : Type 0} (fault : DeskFault) (old : Desk T) (text : Lis
   pub words : text ≡ refused_words fault
   pub same : new ≡ old
 
--- a refusal if there is one, and else this
+-- a refusal if there is one, and otherwise this
 abbrev pub Unless : {T : Type 0} → Option DeskFault → Desk T → List ℕ → Desk T → Type 0 → Type 0
 Unless (Some fault) old text new Otherwise = IsRefused fault old text new
 Unless None old text new Otherwise = Otherwise
 
--- The teller is asked for an account's state, and the words are those of its reply. Nothing but the
+-- The teller is queried for an account's state, and the words are those of its reply. Only the
 -- teller changes.
 pub record TellsBalance {T : Type 0} (says : T → Exchange → T → Type 0) (account : ℕ)
     (old : Desk T) (text : List ℕ) (new : Desk T) : Type 0 where
@@ -103,8 +102,7 @@ pub record TellsBalance {T : Type 0} (says : T → Exchange → T → Type 0) (a
   pub told : text ≡ balance_or_refused account outcome
   pub same : new ≡ record old { teller = new.teller }
 
--- The teller is asked a question, and the words are those of its answer. Nothing but the teller
--- changes.
+-- The teller gets a question, and the words are those of its answer. Only the teller changes.
 pub record TellsAnswer {T A : Type 0} (says : T → Exchange → T → Type 0) (asks : A → Reading)
     (words : A → List ℕ) (old : Desk T) (text : List ℕ) (new : Desk T) : Type 0 where
   pub outcome : Result A ReadFault
@@ -112,7 +110,7 @@ pub record TellsAnswer {T A : Type 0} (says : T → Exchange → T → Type 0) (
   pub told : text ≡ read_or_refused words outcome
   pub same : new ≡ record old { teller = new.teller }
 
--- The teller is asked to broadcast a value, which is kept under its id unless it is refused.
+-- The teller is called to broadcast a value, which is kept under its id unless it is refused.
 pub record Broadcasts {T : Type 0} (says : T → Exchange → T → Type 0) (id : ℕ) (value : List ℕ)
     (old : Desk T) (text : List ℕ) (new : Desk T) : Type 0 where
   pub outcome : Result ℕ TellerFault
@@ -137,7 +135,7 @@ AnswersPay says None order old text new =
     Unless (pay_fault old.accounts old.own (pairs_of order.payments)) old text new
     (Broadcasts says order.id (value_of_payments order.payments) old text new)
 
--- A note names nobody and no amount, so nothing refuses it before the teller is asked.
+-- A note names nobody and no amount, so nothing refuses it before the teller is called.
 abbrev pub AnswersNote :
     {T : Type 0} → (T → Exchange → T → Type 0) → Option Kept → ℕ → List ℕ → Desk T → List ℕ
     → Desk T → Type 0
@@ -145,7 +143,7 @@ AnswersNote says (Some kept) id note old text new =
     IsKeptAnswer kept id (Some (note_value note)) old text new
 AnswersNote says None id note old text new = Broadcasts says id (note_value note) old text new
 
--- so an answer about an account, if it is one of so many
+-- an answer about an account, if the account exists
 abbrev pub AnswersAbout :
     {T A : Type 0} → (T → Exchange → T → Type 0) → ℕ → (A → Reading) → (A → List ℕ) → Desk T
     → List ℕ → Desk T → Type 0
@@ -153,7 +151,7 @@ AnswersAbout says account asks words old text new =
     Unless (account_fault old.accounts account) old text new
     (TellsAnswer says asks words old text new)
 
--- The answer to a command, and to a line that is none. `says` is what becomes of the teller.
+-- The answer to a command, and to a line that is none. `says` is what a call does to the teller.
 -- page: `AnswersCommand`: the answer to a desk's command, with the desk after it
 abbrev pub AnswersCommand :
     {T : Type 0} → (T → Exchange → T → Type 0) → Option Command → Desk T → List ℕ → Desk T → Type 0
@@ -182,12 +180,12 @@ AnswersCommand says (Some Front) old text new =
 
 -- ---- memory
 
--- the teller is as it was, or was called once by what reads at length
+-- the teller is unchanged, or was called once for what reads at length
 abbrev pub OnlyRead : {T : Type 0} → (T → Exchange → T → Type 0) → T → T → Type 0
 OnlyRead says old new =
     (new ≡ old) ⊎ ((said : Exchange) × (reads_at_length said ≡ true) × says old said new)
 
--- Where memory was refused nothing changed, except that the teller may have been read at length.
+-- If memory ran out nothing changed, except that the teller may have been read at length.
 pub record GaveUp {T : Type 0} (says : T → Exchange → T → Type 0) (old new : Desk T)
     : Type 0 where
   pub teller : OnlyRead says old.teller new.teller

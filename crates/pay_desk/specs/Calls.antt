@@ -1,30 +1,28 @@
--- What a desk asks of its teller, with what that replies.
+-- The calls of a desk to its teller, with the replies.
 use Rattle.std.specs.Prelude.{◌≡◌, ℕ, Bool, true, false, List, [], ◌∷◌, Result, Ok, Err}
-use Rattle.pay_member.specs.declared.query_fault.QueryFault.{QueryFault}
-use Rattle.pay_member.specs.declared.query_fault.QueryFault.TheVariants as query
+use Rattle.pay_member.specs.declared.fault.QueryFault.{QueryFault}
+use Rattle.pay_member.specs.declared.fault.QueryFault.TheVariants as query
 use Rattle.pay_member.specs.declared.reading.Reading.{Reading}
 use Rattle.pay_member.specs.declared.reading.Reading.TheVariants as reading
-use Rattle.pay_member.specs.declared.told.Told.{Told}
-use Rattle.pay_desk.specs.declared.teller_fault.TellerFault.{TellerFault}
-use Rattle.pay_desk.specs.declared.teller_fault.TellerFault.TheVariants.{Memory, Spent, TooEarly}
-use Rattle.pay_desk.specs.declared.teller_fault.TellerFault.TheVariants.{Forgotten}
-use Rattle.pay_desk.specs.declared.teller_fault.ReadFault.{ReadFault}
-use Rattle.pay_desk.specs.declared.teller_fault.ReadFault.TheVariants as read
+use Rattle.pay_member.specs.declared.event.Told.{Told}
+use Rattle.pay_desk.specs.declared.fault.TellerFault.{TellerFault}
+use Rattle.pay_desk.specs.declared.fault.TellerFault.TheVariants.{Memory, Spent, TooEarly}
+use Rattle.pay_desk.specs.declared.fault.TellerFault.TheVariants.{Forgotten}
+use Rattle.pay_desk.specs.declared.fault.ReadFault.{ReadFault}
+use Rattle.pay_desk.specs.declared.fault.ReadFault.TheVariants as read
 
--- change: what a desk asks its teller for: by a member `specs/OneMember.antt`; by a node
---   `pay_peers/specs/Telling.antt`
 pub data Exchange : Type 0 where
-  -- under an id, a value to broadcast: the number that it got, or why it got none
+  -- A value to broadcast, under an id: the number that it got, or why it got none
   Ask : ℕ → List ℕ → Result ℕ TellerFault → Exchange
-  -- for the state of an account, which the member notes
+  -- a query for the state of an account, which the member records
   Query : ℕ → Result Told QueryFault → Exchange
-  -- for what is read of the member
+  -- what is read of the member
   Read : Reading → Exchange
-  -- for what was read and isn't told, since the member has forgotten
+  -- what was read and is withheld, since the member has lost state
   Withhold : Reading → Exchange
 
--- A call came to its end: it has a reply, or memory was refused and nothing changed. `says` is what
--- becomes of a teller: who it was, what was said, and who it is then.
+-- A call ended: it has a reply, or memory ran out and nothing changed. `says` relates a teller
+-- before a call, what was said, and the teller after it.
 abbrev pub Asks :
     {T : Type 0} → (T → Exchange → T → Type 0) → T → ℕ → List ℕ → Result ℕ TellerFault → T → Type 0
 Asks says old id value (Ok seq) new = says old (Ask id value (Ok seq)) new
@@ -48,7 +46,7 @@ AsksQuestion says old asks (Err read.Memory) new = new ≡ old
 AsksQuestion {T} {A} says old asks (Err read.Forgotten) new =
     (answer : A) × says old (Withhold (asks answer)) new
 
--- the values that were broadcast by it
+-- the values that a call broadcast
 abbrev pub values_asked_by : Exchange → List (List ℕ)
 values_asked_by (Ask id value (Ok seq)) = value ∷ []
 values_asked_by (Ask id value (Err fault)) = []
@@ -56,7 +54,7 @@ values_asked_by (Query account answer) = []
 values_asked_by (Read reading) = []
 values_asked_by (Withhold reading) = []
 
--- what may be long, so that memory for its words may be refused
+-- what may be long, so that memory for its words may run out
 abbrev pub is_long : Reading → Bool
 is_long (reading.Sent from max bodies) = true
 is_long (reading.State owner seq state) = false
@@ -64,6 +62,8 @@ is_long (reading.Statement account statement) = true
 is_long (reading.Entries account from excerpt) = true
 is_long (reading.Waiting account excerpt) = true
 is_long (reading.Fronts counts) = false
+is_long (reading.Forgetting says) = false
+is_long (reading.LastLie peer lie) = false
 
 abbrev pub reads_at_length : Exchange → Bool
 reads_at_length (Ask id value answer) = false

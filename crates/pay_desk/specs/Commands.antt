@@ -1,4 +1,4 @@
--- What the lines of a desk ask for, word by word.
+-- What the lines of a desk request, word by word.
 use Rattle.std.specs.Prelude.{⊤, ℕ, ◌≤◌, nat_le, nat_lt, List, [], ◌∷◌, length, drop, codes, Option}
 use Rattle.std.specs.Prelude.{Some, None, option_and_then, option_map, if◌then◌else◌}
 use Rattle.std.specs.Str.{bytes_eq}
@@ -11,13 +11,11 @@ use Rattle.pay_desk.specs.declared.command.Command.{Command}
 use Rattle.pay_desk.specs.declared.command.Command.TheVariants.{Pay, Note, Balance, State}
 use Rattle.pay_desk.specs.declared.command.Command.TheVariants.{Statement, Entries, Waiting, Front}
 use Rattle.pay_desk.specs.declared.command.TheConstants.{MOST_LINE}
-use Rattle.pay_desk.specs.declared.payments.Payments.TheVariants.{One, Several}
+use Rattle.pay_desk.specs.declared.command.Payments.TheVariants.{One, Several}
 use Rattle.pay_book.specs.declared.note.TheConstants.{MOST_NOTE}
 use Rattle.pay_book.specs.Notes.{is_note_text}
 use Rattle.pay_desk.specs.Payments.{HasFew}
 
--- change: a command of a desk: `specs/Answers.antt`, `specs/Words.antt`; model
---   `tests/models/desks.py`
 -- the numbers that payments of an account have
 abbrev pub if_seq : ℕ → Option ℕ
 if_seq n = if nat_lt n SEQS then Some n else None
@@ -25,7 +23,7 @@ if_seq n = if nat_lt n SEQS then Some n else None
 abbrev pub first_seq : List (List ℕ) → Option ℕ
 first_seq words = option_and_then if_seq (first_number words)
 
--- what is asked for, where no word is left
+-- the request, if no word is left
 abbrev pub if_last : {X : Type 0} → List (List ℕ) → X → Option X
 if_last words x = if is_none words then Some x else None
 
@@ -34,7 +32,7 @@ abbrev pub rest_of_line : List (List ℕ) → Option (List ℕ)
 rest_of_line [] = None
 rest_of_line (word ∷ words) = Some (joined_words word words)
 
--- that this text is said, if a note may say it
+-- the command for a note of this text, if a note may contain it
 abbrev pub note_under : ℕ → List ℕ → Option Command
 note_under id text = if is_note_text text then Some (Note id text) else None
 
@@ -107,15 +105,15 @@ command_named words name =
     else if bytes_eq name (codes "FRONT") then if_last words Front
     else None
 
--- what these words ask for
+-- what these words request
 unfoldable pub command_by : List (List ℕ) → Option Command
 command_by words = option_and_then (command_named (drop 1 words)) (first_word words)
 
--- what a line asks for; one over the bound is no command, whatever it says
+-- what a line requests; a line over the bound is no command, whatever it says
 unfoldable pub command_in : List ℕ → Option Command
 command_in line = if nat_le (length line) MOST_LINE then command_by (words_of line) else None
 
--- What is asked to be paid or said is no more than a value holds.
+-- What is to be paid or said is no more than a value holds.
 abbrev pub AsksFew : Command → Type 0
 AsksFew (Pay order) = HasFew order.payments
 AsksFew (Note id text) = length text ≤ MOST_NOTE

@@ -2,7 +2,7 @@
 use Rattle.std.specs.Prelude.{◌≡◌, ℕ, Bool, true, List, Option, Some, None, Result, Ok, Err, IfSome}
 use Rattle.std.specs.Prelude.{◌⊎◌}
 use Rattle.std.specs.Io.KnownBytes.{IsAtEnd}
-use Rattle.pay_io.specs.declared.stream_fault.StreamFault.{StreamFault}
+use Rattle.pay_frame.specs.declared.device.StreamFault.{StreamFault}
 use Rattle.pay_text.specs.Lines.{lines_within}
 use Rattle.pay_text.specs.Engine.{Answering, AnswersAll, AnswersFirst, Dialogue}
 use Rattle.pay_desk.specs.declared.command.Command.{Command}
@@ -14,30 +14,29 @@ use Rattle.pay_desk.specs.Calls.{Exchange}
 use Rattle.pay_desk.specs.Commands.{command_in}
 use Rattle.pay_desk.specs.Words.{refused_words}
 
--- what a line asks for; one over the bound, of which nothing else is known, is no command
+-- what a line requests; a line over the bound, about which nothing else is known, is no command
 abbrev pub command_at : Option (List ℕ) → Option Command
 command_at None = None
 command_at (Some line) = command_in line
 
--- memory was refused, and the answer says so
+-- memory ran out, and the answer says so
 pub record TellsMemory {T : Type 0} (says : T → Exchange → T → Type 0) (old : Desk T)
     (text : List ℕ) (new : Desk T) : Type 0 where
   pub words : text ≡ refused_words Memory
   pub gave_up : GaveUp says old new
 
--- what becomes of a desk by one line: its answer, or that memory was refused; a line may always
--- follow
+-- what one line does to a desk: its answer, or that memory ran out; a line may always follow
 pub record DeskSays {T : Type 0} (says : T → Exchange → T → Type 0) (old : Desk T)
     (line : Option (List ℕ)) (text : List ℕ) (goes_on : Bool) (new : Desk T) : Type 0 where
   pub on : goes_on ≡ true
   pub answer : AnswersCommand says (command_at line) old text new ⊎ TellsMemory says old text new
 
--- so a desk answers lines; it never gives up, since it answers that memory was refused
+-- how a desk answers lines; it never gives up, since it answers that memory ran out
 abbrev pub desk_answering : {T : Type 0} → (T → Exchange → T → Type 0) → Answering (Desk T)
 desk_answering says = record { says = DeskSays says; gives_up = λ mid last. last ≡ mid }
 
--- What is written, by how the engine ended: the answers to all lines of the input, at its end; else
--- a prefix of them, and the desk is what the answered lines made of it.
+-- What is written, according to how the loop ended: the answers to all lines of the input, at its
+-- end. Otherwise it is a prefix of them, and the desk is as the answered lines left it.
 abbrev pub WritesAnswers :
     {T : Type 0} → (T → Exchange → T → Type 0) → Dialogue (Desk T) → Dialogue (Desk T)
     → Option (List ℕ) → Option (List ℕ) → Result Unit StreamFault → Type 0

@@ -2,13 +2,11 @@
 use Rattle.std.specs.Prelude.{ℕ, List, ◌++◌, codes, decimal}
 use Rattle.pay_desk.specs.declared.fault.DeskFault.{DeskFault}
 use Rattle.pay_desk.specs.declared.fault.DeskFault.TheVariants.{Memory, BadLine, NoAccount}
-use Rattle.pay_desk.specs.declared.fault.DeskFault.TheVariants.{ZeroOrSelf, IdUsed, Spent}
-use Rattle.pay_desk.specs.declared.fault.DeskFault.TheVariants.{TooEarly, Forgotten}
-use Rattle.pay_desk.specs.declared.teller_fault.TellerFault.{TellerFault}
-use Rattle.pay_desk.specs.declared.teller_fault.TellerFault.TheVariants as teller
+use Rattle.pay_desk.specs.declared.fault.DeskFault.TheVariants.{ZeroOrSelf, IdUsed, Spent, TooEarly}
+use Rattle.pay_desk.specs.declared.fault.DeskFault.TheVariants.{Forgotten}
+use Rattle.pay_desk.specs.declared.fault.TellerFault.{TellerFault}
+use Rattle.pay_desk.specs.declared.fault.TellerFault.TheVariants as teller
 
--- change: a refusal of a desk, as `IdUsed`: its place in the order in `specs/Laws.antt`; model
---   `tests/models/desks.py`
 abbrev pub desk_fault_number : DeskFault → ℕ
 desk_fault_number Memory = 0
 desk_fault_number BadLine = 1
@@ -32,7 +30,7 @@ desk_fault_name Forgotten = codes "Forgotten"
 abbrev pub desk_fault_words : DeskFault → List ℕ
 desk_fault_words fault = decimal (desk_fault_number fault) ++ codes " " ++ desk_fault_name fault
 
--- what a desk answers where its teller refuses
+-- what a desk answers if its teller refuses
 abbrev pub desk_fault_of : TellerFault → DeskFault
 desk_fault_of teller.Memory = Memory
 desk_fault_of teller.Spent = Spent

@@ -1,5 +1,5 @@
--- When a desk refuses, and what holds of a desk over all lines, as statements. Each is proved as a
--- public law.
+-- Statements about when a desk refuses, and about a desk over all lines. Each is proved as a public
+-- law.
 use Rattle.std.specs.Prelude.{◌≡◌, ◌↔◌, ◌⊎◌, ℕ, ◌<◌, ◌≤◌, ◌^◌, Bool, true, All, Any, List, [], ◌∷◌}
 use Rattle.std.specs.Prelude.{◌++◌, map, None, Option, Some, ⊤}
 use Rattle.pay_text.specs.Answers.{Answers}
@@ -7,7 +7,7 @@ use Rattle.pay_book.specs.Notes.{note_value}
 use Rattle.pay_desk.specs.declared.desk.Desk.{Desk}
 use Rattle.pay_desk.specs.declared.fault.DeskFault.TheVariants.{NoAccount, ZeroOrSelf}
 use Rattle.pay_desk.specs.declared.kept.Kept.{Kept}
-use Rattle.pay_desk.specs.declared.payments.Payments.{Payments}
+use Rattle.pay_desk.specs.declared.command.Payments.{Payments}
 use Rattle.pay_desk.specs.Answers.{account_fault, pay_fault}
 use Rattle.pay_desk.specs.Calls.{Exchange}
 use Rattle.pay_desk.specs.Desk.{DeskSays}
@@ -16,19 +16,19 @@ use Rattle.pay_desk.specs.Payments.{pairs_of, value_of_payments, if_named}
 
 -- ---- refusals
 
--- of a question about an account: there is no such account
+-- a question about an account that doesn't exist
 abbrev pub AccountCause : Type 0
 AccountCause =
     (accounts account : ℕ) → (account_fault accounts account ≡ Some NoAccount)
     ↔ (accounts ≤ account)
 
--- of payments: some payee is no account
+-- payments with a payee that is no account
 abbrev pub PayeeCause : Type 0
 PayeeCause =
     (accounts own : ℕ) (pairs : List (ℕ × ℕ))
     → (pay_fault accounts own pairs ≡ Some NoAccount) ↔ Any (λ p. accounts ≤ p.0) pairs
 
--- all payees are, and somewhere nothing is paid or the payee is the payer
+-- payments with existing payees, at least one of them of nothing or to the payer
 abbrev pub PaymentCause : Type 0
 PaymentCause =
     (accounts own : ℕ) (pairs : List (ℕ × ℕ))
@@ -41,7 +41,7 @@ PaymentCause =
 abbrev pub AreOfLine : Payments → Type 0
 AreOfLine payments = All (λ p. p.1 < 2 ^ 64) (pairs_of payments)
 
--- A kept id has its answer for the very payments that were asked for: no others have their value.
+-- A kept id has its answer for the very payments that were submitted: no others have their value.
 abbrev pub KeptAnswersItsOwn : Type 0
 KeptAnswersItsOwn =
     (asked again : Payments) → AreOfLine asked → AreOfLine again
@@ -49,7 +49,7 @@ KeptAnswersItsOwn =
     → is_value (if_named again (value_of_payments again)) (value_of_payments asked) ≡ true
     → again ≡ asked
 
--- So has one that is kept for a note. No payment has a note's value.
+-- A kept id of a note has its answer for the very note. No payment has a note's value.
 pub record KeptAnswersItsNote : Type 0 where
   pub note :
       (said again : List ℕ) → is_value (Some (note_value again)) (note_value said) ≡ true
@@ -63,7 +63,7 @@ pub record KeptAnswersItsNote : Type 0 where
 
 -- ---- all lines
 
--- these values are kept after the others, each under an id that was free until then
+-- these values are kept after the others, each under an id that was free before
 abbrev pub AreUnderFreeIds : List Kept → List Kept → Type 0
 AreUnderFreeIds kept [] = ⊤
 AreUnderFreeIds kept (k ∷ more) =
@@ -91,8 +91,9 @@ LinesAskOnce {T} says asked =
 
 -- ---- a whole life
 
--- Kept is just what was broadcast since the member began, in order, each value under an id of its
--- own: these values before this teller, and the others through it.
+-- What is kept is just what was broadcast since the member began, in order, each value under an id
+-- of its own. The first of these values were broadcast before this teller, and the others through
+-- it.
 pub record KeepsAll {T : Type 0} (asked : T → List (List ℕ)) (before : List (List ℕ))
     (desk : Desk T) : Type 0 where
   pub values : map (λ k. k.value) desk.kept ≡ before ++ asked desk.teller

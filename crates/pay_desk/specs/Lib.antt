@@ -9,4 +9,3 @@ pub mod Desk
 pub mod OneMember
 pub mod MemberAsks
 pub mod Laws
-pub mod Rows

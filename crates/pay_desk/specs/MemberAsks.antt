@@ -1,14 +1,14 @@
--- What a member broadcasts by a desk's call: the law of a teller, for a member.
+-- What a desk's call broadcasts at a member: the law of a teller, for a member.
 use Rattle.std.specs.Prelude.{◌≡◌, ℕ, List, [], ◌∷◌, ◌++◌, Result, Ok, Err}
 use Rattle.std.proofs.Common.{sym, ap, ◌∙◌, append-nil}
 use Rattle.std.proofs.lemmas.List.Elements.{filter_map-append}
-use Rattle.pay_member.specs.declared.entry.HistoryEntry.{HistoryEntry}
+use Rattle.pay_member.specs.declared.event.HistoryEntry.{HistoryEntry}
 use Rattle.pay_member.specs.declared.event.Event.TheVariants as event
-use Rattle.pay_member.specs.declared.query_fault.QueryFault.{QueryFault}
-use Rattle.pay_member.specs.declared.reply.Reply.TheVariants as reply
-use Rattle.pay_member.specs.declared.told.Told.{Told}
+use Rattle.pay_member.specs.declared.fault.QueryFault.{QueryFault}
+use Rattle.pay_member.specs.declared.event.Reply.TheVariants as reply
+use Rattle.pay_member.specs.declared.event.Told.{Told}
 use Rattle.pay_member.specs.Member.{MemberFields, with_entry}
-use Rattle.pay_desk.specs.declared.teller_fault.TellerFault.{TellerFault}
+use Rattle.pay_desk.specs.declared.fault.TellerFault.{TellerFault}
 use Rattle.pay_desk.specs.Calls.{Exchange, Ask, Query, Read, Withhold, values_asked_by}
 use Rattle.pay_desk.specs.OneMember.{MemberSays, after_asking, after_query, value_asked}
 use Rattle.pay_desk.specs.OneMember.{values_asked}
@@ -33,7 +33,7 @@ by_query stamp m account (Ok told) =
     one_more m (record { stamp = stamp; event = event.Query account; reply = reply.Told told })
 by_query stamp m account (Err fault) = sym (append-nil (values_asked m.history))
 
--- nothing is broadcast but what is asked for and gets a number
+-- nothing is broadcast except what is submitted and gets a number
 pub member_asks :
     (stamp : ℕ) (old new : MemberFields) (said : Exchange) → MemberSays stamp old said new
     → values_asked new.history ≡ values_asked old.history ++ values_asked_by said

@@ -4,19 +4,19 @@ use Rattle.std.specs.Prelude.{if◌then◌else◌}
 use Rattle.std.specs.List.{filter_map}
 use Rattle.pay_frame.specs.declared.limits.TheConstants.{SEQS}
 use Rattle.pay_channel.specs.History.{asks}
-use Rattle.pay_member.specs.declared.entry.HistoryEntry.{HistoryEntry}
+use Rattle.pay_member.specs.declared.event.HistoryEntry.{HistoryEntry}
 use Rattle.pay_member.specs.declared.event.Event.{Event}
 use Rattle.pay_member.specs.declared.event.Event.TheVariants as event
-use Rattle.pay_member.specs.declared.query_fault.QueryFault.{QueryFault}
-use Rattle.pay_member.specs.declared.query_fault.QueryFault.TheVariants.{NoAccount}
-use Rattle.pay_member.specs.declared.reply.Reply.TheVariants as reply
-use Rattle.pay_member.specs.declared.told.Told.{Told}
+use Rattle.pay_member.specs.declared.fault.QueryFault.{QueryFault}
+use Rattle.pay_member.specs.declared.fault.QueryFault.TheVariants.{NoAccount}
+use Rattle.pay_member.specs.declared.event.Reply.TheVariants as reply
+use Rattle.pay_member.specs.declared.event.Told.{Told}
 use Rattle.pay_member.specs.Events.{events}
 use Rattle.pay_member.specs.Member.{MemberFields, with_entry}
 use Rattle.pay_member.specs.Questions.{Shows, if_account}
 use Rattle.pay_member.specs.Reply.{told_of}
-use Rattle.pay_desk.specs.declared.teller_fault.TellerFault.{TellerFault}
-use Rattle.pay_desk.specs.declared.teller_fault.TellerFault.TheVariants.{Spent}
+use Rattle.pay_desk.specs.declared.fault.TellerFault.{TellerFault}
+use Rattle.pay_desk.specs.declared.fault.TellerFault.TheVariants.{Spent}
 use Rattle.pay_desk.specs.Calls.{Exchange, Ask, Query, Read, Withhold}
 
 -- the number of the next value, unless all are used
@@ -24,7 +24,7 @@ unfoldable pub number_of_next : MemberFields → Result ℕ TellerFault
 number_of_next m =
     if nat_le SEQS (asks (events m.history)) then Err Spent else Ok (asks (events m.history))
 
--- the state of an account that is there
+-- the state of an existing account
 unfoldable pub state_told : MemberFields → ℕ → Result Told QueryFault
 state_told m account =
     or_no_account (if_account m account (told_of m.genesis m.keys.own (events m.history) account))
@@ -44,7 +44,7 @@ after_query stamp m account (Ok told) =
     with_entry m (record { stamp = stamp; event = event.Query account; reply = reply.Told told })
 after_query stamp m account (Err fault) = m
 
--- what becomes of a member by what a desk asks of it
+-- what a desk's call does to a member
 abbrev pub MemberSays : ℕ → MemberFields → Exchange → MemberFields → Type 0
 MemberSays stamp old (Ask id value answer) new =
     (answer ≡ number_of_next old) × (new ≡ after_asking stamp old value answer)

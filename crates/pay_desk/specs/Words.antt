@@ -9,13 +9,13 @@ use Rattle.pay_book.specs.declared.payment.Entry.{Entry}
 use Rattle.pay_book.specs.declared.payment.Entry.TheVariants as entry
 use Rattle.pay_book.specs.Balance.{amount_of}
 use Rattle.pay_book.specs.Excerpt.{ExcerptFields}
-use Rattle.pay_member.specs.declared.standing.PaymentState.{PaymentState}
-use Rattle.pay_member.specs.declared.standing.PaymentState.TheVariants.{Unknown, Asked, Waiting}
-use Rattle.pay_member.specs.declared.standing.PaymentState.TheVariants.{Settled}
+use Rattle.pay_member.specs.declared.question.PaymentState.{PaymentState}
+use Rattle.pay_member.specs.declared.question.PaymentState.TheVariants.{Unknown, Asked, Waiting}
+use Rattle.pay_member.specs.declared.question.PaymentState.TheVariants.{Settled}
 use Rattle.pay_desk.specs.declared.fault.DeskFault.{DeskFault}
 use Rattle.pay_desk.specs.Faults.{desk_fault_number, desk_fault_name}
 
--- the end of a line
+-- a line feed
 abbrev pub end_of_line : List ℕ
 end_of_line = 10 ∷ []
 
@@ -100,7 +100,7 @@ settled_words account excerpt =
     entries_words (codes "entry") account excerpt.first excerpt.entries
     ++ next_entry_words account (excerpt.first + length excerpt.entries)
 
--- what a balance is short of for the first of these entries
+-- what a balance lacks for the first of these entries
 unfoldable pub short_by : ℕ → List ShownEntry → ℕ
 short_by balance [] = 0
 short_by balance (e ∷ entries) = amount_of e.entry - balance
@@ -110,7 +110,7 @@ unfoldable pub short_words : ℕ → ℕ → List ℕ
 short_words account short =
     codes "end " ++ decimal account ++ codes " short " ++ decimal short ++ end_of_line
 
--- a line for each entry that waits, and what the balance is short of for the first
+-- a line for each entry that waits, and what the balance lacks for the first
 unfoldable pub waiting_words : ℕ → ExcerptFields → List ℕ
 waiting_words account excerpt =
     entries_words (codes "waiting") account excerpt.first excerpt.entries

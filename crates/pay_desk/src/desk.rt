@@ -1,24 +1,21 @@
-ghost use Rattle.std.specs.Prelude.{◌≡◌, ◌≤◌, [], length, IfOk, IfSome};
-ghost use Rattle.std.specs.Prelude.{OnErr, None, Some, MatchResult};
+ghost use Rattle.std.specs.Prelude.{◌≡◌, ◌≤◌, [], length, IfOk, IfSome, OnErr, None, Some};
+ghost use Rattle.std.specs.Prelude.{MatchResult};
 ghost use Rattle.std.specs.List.{list_all, list_any};
 ghost use Rattle.std.specs.Result.{result_err};
 ghost use Rattle.pay_desk.specs.Answers.{AnswersCommand, AnswersNote, AnswersPay, Broadcasts};
 ghost use Rattle.pay_desk.specs.Answers.{GaveUp, TellsAnswer, TellsBalance, account_fault};
 ghost use Rattle.pay_desk.specs.Answers.{is_account, is_void, pay_fault};
-ghost use Rattle.pay_desk.specs.Payments.{HasFew, if_named, pairs_of, value_of_payments};
 ghost use Rattle.pay_desk.specs.Commands.{command_in};
 ghost use Rattle.pay_desk.specs.Kept.{kept_under};
+ghost use Rattle.pay_desk.specs.Payments.{HasFew, if_named, pairs_of, value_of_payments};
 
-use crate::command::{Command, Order};
-use crate::command_reading::read_command;
-use crate::fault::DeskFault;
+use crate::command::{Command, Order, Payments, read_command};
+use crate::fault::{DeskFault, ReadFault, TellerFault};
 use crate::kept::KeptValues;
-use crate::payments::Payments;
 use crate::putting::{
     MOST_ANSWER, kept_text, put_asked, put_balance, put_refused, refused_text, room_for,
 };
 use crate::teller::Teller;
-use crate::teller_fault::{ReadFault, TellerFault};
 use crate::wording::Wording;
 use pay_book::{MOST_NOTE, note_value};
 use pay_frame::{Bytes, GREATEST_VALUE};
@@ -26,9 +23,7 @@ use pay_member::QueryFault;
 use pay_member::question::{AllFronts, EntriesOf, StateOf, StatementOf, WaitingOf};
 use std::alloc::{AllocError, Global};
 
-// term: desk: what answers the lines of an account's owner
-/// A desk: a teller, how many accounts there are and which one is the own, and all values that
-/// were asked for.
+/// A desk: a teller, the count of accounts and its own account's number, and all submitted values.
 #[derive(Drop)]
 pub struct Desk<T> {
     teller: T,
@@ -38,7 +33,7 @@ pub struct Desk<T> {
 }
 
 impl<T: Teller> Desk<T> {
-    /// A desk that has asked for nothing, over a teller of account `own` among `accounts`.
+    /// Creates a desk without submitted values, over a teller of account `own` among `accounts`.
     // promise: desk lines
     pub fn new(alloc: Global, teller: T, accounts: u16, own: u16) -> Desk<T>
         ensures { result ≡ record { teller = teller; accounts = accounts; own = own; kept = [] } }
@@ -46,7 +41,7 @@ impl<T: Teller> Desk<T> {
         Desk::with_kept(teller, accounts, own, KeptValues::new(alloc))
     }
 
-    /// A desk that goes on with what earlier ones kept.
+    /// Creates a desk over `teller` that continues with what earlier desks `kept`.
     pub fn with_kept(teller: T, accounts: u16, own: u16, kept: KeptValues) -> Desk<T>
         ensures { result ≡ record { teller = teller; accounts = accounts; own = own; kept = kept } }
     {
@@ -58,13 +53,7 @@ impl<T: Teller> Desk<T> {
         }
     }
 
-    pub fn teller(&self) -> &T
-        ensures { result.now ≡ self.now.teller }
-    {
-        &self.teller
-    }
-
-    /// Gives the teller back.
+    /// Returns the teller.
     pub fn into_teller(self) -> T
         ensures { result ≡ self.teller }
     {
@@ -72,9 +61,9 @@ impl<T: Teller> Desk<T> {
         teller
     }
 
-    /// Answers a line: the text has a line feed at the end of each of its lines.
+    /// Answers `line`. Each line of the answer ends with a line feed.
     ///
-    /// Where memory is refused the desk is unchanged, and the line may be given again.
+    /// If memory runs out the desk is unchanged, and the line may be repeated.
     // promise: nothing changes (err); desk lines (text); ids (text)
     pub fn line(&mut self, alloc: Global, line: &[u8]) -> Result<Vec<u8>, AllocError>
         ensures text { IfOk result (λ text.
@@ -111,7 +100,7 @@ impl<T: Teller> Desk<T> {
         }
     }
 
-    // An id that is kept has its answer; another one is looked at.
+    // Submits payments. A kept id gets its old answer; payments under a new id are tested.
     fn pay(&mut self, alloc: Global, order: Order) -> Result<Vec<u8>, AllocError>
         requires { HasFew order.payments }
         ensures text { IfOk result (λ text.
@@ -146,7 +135,7 @@ impl<T: Teller> Desk<T> {
         }
     }
 
-    // A note names nobody: only what is kept under its id is looked at.
+    // Submits a note. A note names nobody, so only its id is tested.
     fn note(&mut self, alloc: Global, id: u64, text: &Bytes) -> Result<Vec<u8>, AllocError>
         requires { length text.now ≤ MOST_NOTE }
         ensures text { IfOk result (λ answer.
@@ -161,7 +150,7 @@ impl<T: Teller> Desk<T> {
         }
     }
 
-    // The account of this number, if there is one.
+    // Returns the account of this `number`, if there is one.
     fn account(&self, number: u64) -> Result<u16, DeskFault>
         ensures { MatchResult result
             (λ account. (account_fault self.now.accounts number ≡ None) × (account ≡ number))
@@ -204,7 +193,7 @@ impl<T: Teller> Desk<T> {
         Ok(text)
     }
 
-    // What the teller answers to a question, in words.
+    // Returns what the teller answers to `question`, in words.
     fn read<Q: Wording>(&mut self, alloc: Global, question: Q) -> Result<Vec<u8>, AllocError>
         ensures text { IfOk result (λ text.
             TellsAnswer T.says (Q.reading question) (Q.words question)
@@ -221,8 +210,8 @@ impl<T: Teller> Desk<T> {
     }
 }
 
-// The value of payments, or why they aren't asked for. A payee that no value can name is no
-// account.
+// Returns the value of `payments`, or why they aren't submitted. A payee that no value can name is
+// no account.
 #[tactic(auto, using(crate::proofs::Naming::unnamed_is_no_account))]
 fn value_or_fault(
     accounts: u16,
@@ -243,7 +232,7 @@ fn value_or_fault(
     }
 }
 
-// Why payments aren't asked for, if they aren't.
+// Returns why payments aren't submitted, if they aren't.
 fn fault(accounts: u16, own: u16, payments: &Payments) -> Option<DeskFault>
     ensures { result ≡ pay_fault accounts own (pairs_of payments.now) }
 {
@@ -253,7 +242,7 @@ fn fault(accounts: u16, own: u16, payments: &Payments) -> Option<DeskFault>
     }
 }
 
-// All payees are looked at before any amount.
+// Returns the first fault of payments. All payees are tested before any amount.
 fn fault_of(accounts: u16, own: u16, pairs: &[(u64, u64)]) -> Option<DeskFault>
     ensures { result ≡ pay_fault accounts own pairs.now }
 {
@@ -272,7 +261,7 @@ fn are_accounts(accounts: u16, pairs: &[(u64, u64)]) -> bool
     pairs.iter().all(|pair| pair.0 < u64::from(accounts))
 }
 
-// Whether one of these payments would be a void entry of this account.
+// Returns whether one of these payments would be a void entry of the account `own`.
 fn has_void(own: u16, pairs: &[(u64, u64)]) -> bool
     ensures { result ≡ list_any (is_void own) pairs.now }
 {

@@ -1,14 +1,14 @@
 ghost use Rattle.std.specs.Prelude.{◌≡◌, MatchResult, OnOk};
-ghost use Rattle.pay_io.specs.Counts.{KeepsCounts, counts_of, no_other_faults};
-ghost use Rattle.pay_text.specs.Answers.{text_bytes};
 ghost use Rattle.pay_desk.specs.Desk.{DeskSays, WritesAnswers};
 ghost use Rattle.pay_desk.specs.Words.{refused_words};
+ghost use Rattle.pay_frame.specs.Counts.{KeepsCounts, counts_of, no_other_faults};
+ghost use Rattle.pay_text.specs.Answers.{text_bytes};
 
 use crate::command::MOST_LINE;
 use crate::desk::Desk;
 use crate::fault::DeskFault;
 use crate::teller::Teller;
-use pay_io::{Input, Output, StreamFault};
+use pay_frame::{Input, Output, StreamFault};
 use pay_text::{Answer, Answerer, Text, run_lines};
 use std::alloc::{AllocError, Global};
 
@@ -19,7 +19,7 @@ const MEMORY: &str = "refused 0 Memory\n";
 impl<T: Teller> Answerer for Desk<T> {
     ghost says = { λ old line text on new. DeskSays T.says old line text on new };
 
-    // A desk answers that memory was refused, and so doesn't give up: it would be as it was.
+    // A desk answers that memory ran out, and so doesn't give up: it would be unchanged.
     ghost gives_up = { λ old new. new ≡ old };
 
     fn answer(&mut self, alloc: Global, line: Option<&[u8]>) -> Result<Answer, AllocError> {
@@ -57,11 +57,11 @@ fn memory_text() -> Text
     Text::Fixed(MEMORY)
 }
 
-/// Answers the lines that are read, to the input's end. A line over the bound is refused as a
-/// whole; where memory is refused the answer says so, and it goes on.
+/// Answers the lines that are read with `desk`, to the input's end. A line over the bound is
+/// refused as a whole. If memory runs out the answer says so, and the loop continues.
 ///
-/// After a fault what was written is a prefix of the answers, and the desk is what the answered
-/// lines made of it.
+/// After a fault, a prefix of the answers has been written, and the desk is as the answered lines
+/// left it.
 // promise: early ends (counts, none_failed, all_written); desk lines (text)
 pub fn run_desk<T: Teller, R: Input, W: Output>(
     alloc: Global,

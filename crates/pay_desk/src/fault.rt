@@ -1,31 +1,77 @@
+//! How a desk refuses a line, and how its teller refuses a call.
+
 ghost use Rattle.std.specs.Prelude.{◌≡◌};
 ghost use Rattle.pay_desk.specs.Faults.{desk_fault_name, desk_fault_number, desk_fault_of};
 
-use crate::teller_fault::TellerFault;
+use std::alloc::AllocError;
 use std::fmt;
 use thiserror::Error;
 
-/// Why a desk refuses a line.
+/// The reason why a teller broadcasts no value.
+#[derive(Clone, Copy, Debug, PartialEq, Eq)]
+pub enum TellerFault {
+    /// Memory ran out. This is tested last.
+    Memory,
+    /// All numbers of the member's own account are used.
+    Spent,
+    /// The group may know more about the account than the member does, which isn't known yet.
+    TooEarly,
+    /// The member has lost state.
+    Forgotten,
+}
+
+impl From<AllocError> for TellerFault {
+    ghost use Rattle.std.specs.Prelude.{◌≡◌};
+    ghost use Rattle.pay_desk.specs.declared.fault.TellerFault.TheVariants.{Memory};
+
+    ghost from_gives = { λ _ e. e ≡ Memory };
+
+    fn from(_error: AllocError) -> TellerFault {
+        TellerFault::Memory
+    }
+}
+
+/// The reason why a teller doesn't report what it read.
+#[derive(Clone, Copy, Debug, PartialEq, Eq)]
+pub enum ReadFault {
+    /// Memory ran out.
+    Memory,
+    /// The member has lost state.
+    Forgotten,
+}
+
+impl From<AllocError> for ReadFault {
+    ghost use Rattle.std.specs.Prelude.{◌≡◌};
+    ghost use Rattle.pay_desk.specs.declared.fault.ReadFault.TheVariants.{Memory};
+
+    ghost from_gives = { λ _ e. e ≡ Memory };
+
+    fn from(_error: AllocError) -> ReadFault {
+        ReadFault::Memory
+    }
+}
+
+/// The reason why a desk refuses a line.
 #[derive(Clone, Copy, Debug, PartialEq, Eq, Error)]
 pub enum DeskFault {
-    /// There is no memory: give the line again.
+    /// There is no memory: repeat the line.
     Memory,
     /// The line is no command, or too long.
     BadLine,
-    /// There is no such account. `PAYS` looks at all payees before any amount.
+    /// There is no account of this number. `PAYS` tests all payees before any amount.
     NoAccount,
-    /// It pays nothing, or the own account.
+    /// The line pays nothing, or pays the owner's own account.
     ZeroOrSelf,
-    /// The id is kept with another value, of payments or a note. One payment has another by `PAYS`
-    /// than by `PAY`.
+    /// The id is kept with another value, of payments or a note. A payment has another value with
+    /// `PAYS` than with `PAY`.
     IdUsed,
-    /// All 65,536 numbers of the own account are used.
+    /// All 65,536 numbers of the owner's own account are used.
     Spent,
-    /// Behind a start from a log too few peers have shown yet that they know no more of the own
-    /// account: give the line again (`node` alone).
+    /// After a start from a log, too few peers have shown yet that they know no more about the
+    /// owner's account: repeat the line (`node` alone).
     TooEarly,
-    /// The group knows more of the own account than this node: no payment is made, and no `STATE`,
-    /// `ENTRIES` or `WAITING` of the own account told (`node` alone).
+    /// The group knows more about the owner's account than this node (`node` alone). No payment is
+    /// made, and no `STATE`, `ENTRIES` or `WAITING` of that account is reported.
     Forgotten,
 }
 

@@ -1,17 +1,67 @@
-ghost use Rattle.std.specs.Prelude.{◌≡◌, ◌≤◌, [], ◌∷◌, ◌++◌, None, OnErr, OnOk, length};
+//! What a desk keeps: the submitted payments, each under its id.
+
+ghost use Rattle.std.specs.Prelude.{◌≡◌, ◌==◌, ◌≤◌, [], ◌∷◌, ◌++◌, None, OnErr, OnOk, length};
+ghost use Rattle.std.proofs.Common.{rules};
+ghost use Rattle.std.specs.Cmp.Rules.{comparing, hashing};
 ghost use Rattle.std.specs.Option.{option_copied};
 ghost use Rattle.pay_desk.specs.Calls.{Asks};
 ghost use Rattle.pay_desk.specs.Kept.{kept_after, kept_under};
+ghost use Rattle.std.specs.Hash as fed;
 
-use crate::by_id::ById;
+use crate::fault::TellerFault;
 use crate::teller::Teller;
-use crate::teller_fault::TellerFault;
 use indexmap::IndexSet;
 use pay_frame::{Bytes, GREATEST_VALUE};
 use std::alloc::{AllocError, Global};
+use std::hash::{Hash, Hasher};
 use std::marker::Model;
 
-/// A value that was asked for under an id, and the number that it got.
+/// A kept value. Two are equal if their ids are.
+#[derive(Drop)]
+pub(crate) struct ById {
+    pub(crate) kept: Kept,
+}
+
+impl ById {
+    /// Returns a value that equals all that is kept under this `id`.
+    pub(crate) fn of_id(alloc: Global, id: u64) -> ById
+        ensures { result.kept.id ≡ id }
+    {
+        ById {
+            kept: Kept {
+                id,
+                value: Bytes::new(Vec::new(alloc)),
+                seq: 0,
+            },
+        }
+    }
+}
+
+impl PartialEq for ById {
+    ghost eq = { λ a b. a.kept.id == b.kept.id };
+
+    ghost laws = { Prim.search (comparing, rules) };
+
+    fn eq(&self, other: &ById) -> bool {
+        self.kept.id == other.kept.id
+    }
+}
+
+impl Eq for ById {
+    ghost laws = { Prim.search (comparing, rules) };
+}
+
+impl Hash for ById {
+    ghost hash_input = { λ a. fed.u64 a.kept.id };
+
+    ghost respects_eq = { Prim.search (hashing, rules) };
+
+    fn hash<H: Hasher>(&self, state: &mut H) {
+        self.kept.id.hash(state);
+    }
+}
+
+/// A submitted value with its id, and the number that it got.
 #[derive(Debug, Drop)]
 pub struct Kept {
     pub id: u64,
@@ -19,8 +69,8 @@ pub struct Kept {
     pub seq: u32,
 }
 
-/// All values that were asked for, oldest first. One is found by its id in constant time.
-/// Ids come from the account's own owner, who gains nothing from ids that collide.
+/// All submitted values, oldest first. A value is found by its id in constant time. Ids come from
+/// the account's own owner, who gains nothing from ids that collide.
 #[derive(Drop)]
 pub struct KeptValues {
     values: IndexSet<ById>,
@@ -28,7 +78,7 @@ pub struct KeptValues {
 
 impl Model for KeptValues {
     ghost use Rattle.std.specs.Prelude.{List, map};
-    ghost use Rattle.pay_desk.specs.declared.by_id.ById.{ById};
+    ghost use Rattle.pay_desk.specs.declared.kept.ById.{ById};
     ghost use Rattle.pay_desk.specs.declared.kept.Kept.{Kept};
 
     ghost Value = { List Kept };
@@ -45,14 +95,14 @@ impl KeptValues {
         }
     }
 
-    /// How many values are kept.
+    /// Returns how many values are kept.
     pub fn len(&self) -> usize
         ensures { result ≡ length self.now }
     {
         self.values.len()
     }
 
-    /// What is kept under an id.
+    /// Returns what is kept under `id`.
     // promise: asked once
     pub fn find(&self, alloc: Global, id: u64) -> Option<&Kept>
         ensures { option_copied result ≡ kept_under id self.now }
@@ -61,7 +111,7 @@ impl KeptValues {
         Some(&value.kept)
     }
 
-    /// Keeps what was asked for before, after all else.
+    /// Adds `kept`, which was submitted earlier, after all else.
     pub fn keep(&mut self, kept: Kept) -> Result<(), AllocError>
         requires { kept_under kept.id self.old ≡ None }
         ensures kept { OnOk result (self.new ≡ self.old ++ kept ∷ []) }
@@ -72,8 +122,8 @@ impl KeptValues {
         Ok(())
     }
 
-    /// Has a teller broadcast a value, and keeps that it was asked for. Memory is refused before
-    /// the teller is asked, or by it. A refused value isn't kept.
+    /// Has `teller` broadcast a value, and keeps it as submitted. A lack of memory is reported
+    /// before the teller is called, or by the teller. A refused value isn't kept.
     // promise: asked once; ids (replied)
     pub fn ask<T: Teller>(
         &mut self,

@@ -1,4 +1,4 @@
-//! Laws of a desk's refusals, of notes, and of a desk over all lines: each function's contract is
+//! Laws of a desk's refusals, of notes, and of a desk over all lines. Each function's contract is
 //! the law, and its body does nothing.
 
 ghost use Rattle.pay_desk.specs.Laws.{AccountCause, KeptAnswersItsNote, KeptAnswersItsOwn};
@@ -8,8 +8,8 @@ ghost use Rattle.pay_desk.specs.Laws.{PayeeCause, PaymentCause};
 use crate::teller::Teller;
 use pay_book::what_was_encoded;
 
-/// Each refusal before the teller is asked comes exactly where its own cause holds and no earlier
-/// one.
+/// States that each refusal before the teller is called comes exactly if its own cause holds and no
+/// earlier one.
 // promise: desk lines
 pub fn refusals_before_the_teller()
     ensures account { AccountCause }
@@ -17,8 +17,8 @@ pub fn refusals_before_the_teller()
     ensures payment { PaymentCause }
 {}
 
-/// No two different payments have one value, nor two different notes, nor a note and payments: so a
-/// kept id has its answer only for what was asked for under it.
+/// States that different payments have different values, and so do different notes. No note has the
+/// value of payments. So a kept id gets its answer only for what was submitted under it.
 // promise: asked once
 pub fn a_kept_id_answers_its_own()
     ensures payments { KeptAnswersItsOwn }
@@ -27,10 +27,10 @@ pub fn a_kept_id_answers_its_own()
     what_was_encoded();
 }
 
-/// By one line, and by any lines one after the other, a desk has its teller broadcast just the
-/// values that it keeps since then, in their order, each under an id that was free until then. So
-/// no id is asked with twice, also by a desk that begins with what earlier ones kept, as long as
-/// the member is the same.
+/// States what a desk submits, for one line and for any lines one after the other. Its teller
+/// broadcasts just the values that the desk keeps since then, in their order, each under an id that
+/// was free before. So no id is submitted twice. This holds even for a desk that begins with what
+/// earlier desks kept, as long as the member is the same.
 // promise: asked once; ids (life)
 pub fn a_desk_asks_once<T: Teller>()
     ensures line { LineAsksOnce T.says T.asked }

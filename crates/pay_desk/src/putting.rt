@@ -1,5 +1,5 @@
-//! Answers of one line each, put into room that was made before: so nothing stands between a
-//! teller's reply and the answer that tells it.
+//! Answers of one line each, written into room that was made before. So nothing can fail between a
+//! teller's reply and the answer that reports it.
 
 ghost use Rattle.std.specs.Prelude.{◌≡◌, ◌+◌, ◌*◌, ◌++◌, ◌≤◌, [], IfOk};
 ghost use Rattle.std.specs.Prelude.{decimal, length, vec_capacity, vec_len};
@@ -16,16 +16,16 @@ use pay_frame::{Bytes, MOST_MEMBERS};
 use pay_member::PaymentState;
 use std::alloc::{AllocError, Global};
 
-/// How many bytes an answer of one line has at most.
+/// The greatest size of an answer of one line in bytes.
 pub(crate) const MOST_ANSWER: usize = 64;
 
-/// How many bytes a number takes at most, with the blank before it.
+/// The greatest size of a number in bytes, with the blank before it.
 const MOST_NUMBER: usize = 21;
 
-/// How many bytes an answer to `FRONT` has at most.
+/// The greatest size of an answer to `FRONT` in bytes.
 pub(crate) const MOST_FRONT: usize = 64 + MOST_MEMBERS as usize * MOST_NUMBER;
 
-/// Room for an answer of so many bytes.
+/// Creates room for an answer of this many `bytes`.
 pub(crate) fn room_for(alloc: Global, bytes: usize) -> Result<Vec<u8>, AllocError>
     ensures empty { IfOk result (λ out. out.items ≡ []) }
     ensures room { IfOk result (λ out. vec_len out + bytes ≤ vec_capacity out) }
@@ -107,7 +107,7 @@ fn name_of(state: PaymentState) -> &'static str
     }
 }
 
-// Puts words into room that is there.
+// Writes `word` into room that is there.
 fn put_word(out: &mut Vec<u8>, word: &str)
     requires { vec_len out.old + length word.now ≤ vec_capacity out.old }
     ensures items { out.new.items ≡ out.old.items ++ word.now }
@@ -119,7 +119,7 @@ fn put_word(out: &mut Vec<u8>, word: &str)
     }
 }
 
-// Puts a number into room that is there.
+// Writes `number` into room that is there.
 fn put_number(out: &mut Vec<u8>, number: u64)
     requires { vec_len out.old + 20 ≤ vec_capacity out.old }
     ensures items { out.new.items ≡ out.old.items ++ decimal number }
@@ -130,7 +130,7 @@ fn put_number(out: &mut Vec<u8>, number: u64)
     put_word(out, buffer.format(number));
 }
 
-// Puts numbers, each after a blank, into room that is there.
+// Writes `numbers`, each after a blank, into room that is there.
 #[tactic(auto, unfolding(crate::specs::Words::number_words))]
 fn put_numbers(out: &mut Vec<u8>, numbers: &[u32])
     requires { vec_len out.old + MOST_NUMBER * length numbers.now ≤ vec_capacity out.old }
@@ -144,7 +144,7 @@ fn put_numbers(out: &mut Vec<u8>, numbers: &[u32])
     }
 }
 
-/// A line that says why a command is refused.
+/// Returns a line that says why a command is refused.
 pub(crate) fn refused_text(alloc: Global, fault: DeskFault) -> Result<Vec<u8>, AllocError>
     ensures { IfOk result (λ text. text.items ≡ refused_words fault) }
 {
@@ -153,8 +153,8 @@ pub(crate) fn refused_text(alloc: Global, fault: DeskFault) -> Result<Vec<u8>, A
     Ok(text)
 }
 
-/// What is answered to an id that is kept: the value that was asked for gets the answer that it
-/// got.
+/// Returns the answer to an id that is kept: the submitted value gets the answer that it got
+/// before.
 pub(crate) fn kept_text(
     alloc: Global,
     kept: &Kept,
@@ -172,7 +172,7 @@ pub(crate) fn kept_text(
     Ok(text)
 }
 
-// Whether this is the value that was asked for.
+// Returns whether `value` is the submitted value.
 fn is_kept(kept: &Kept, value: &Option<Bytes>) -> bool
     ensures { result ≡ is_value value.now kept.now.value }
 {

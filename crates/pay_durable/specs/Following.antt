@@ -1,46 +1,46 @@
 -- A log that follows a member's history.
 use Rattle.std.specs.Prelude.{◌≡◌, ◌≢◌, ℕ, ◌+◌, ◌-◌, ◌≤◌, List, [], ◌∷◌, ◌++◌, length, map, take}
-use Rattle.std.specs.Prelude.{drop, false, slice_index_or}
+use Rattle.std.specs.Prelude.{drop, slice_index_or}
 use Rattle.std.specs.List.{flat_map}
 use Rattle.pay_log.specs.declared.log.Log.{Log}
 use Rattle.pay_log.specs.Logs.{IsSynced}
-use Rattle.pay_member.specs.declared.entry.HistoryEntry.{HistoryEntry}
-use Rattle.pay_member.specs.declared.reply.Reply.{Reply}
-use Rattle.pay_member.specs.declared.reply.Reply.TheVariants.{Asked, Took, Told}
-use Rattle.pay_record.specs.Records.{record_of}
-use Rattle.pay_record.specs.Resuming.{LoggedFields, entries_of_logged}
+use Rattle.pay_member.specs.declared.event.HistoryEntry.{HistoryEntry}
+use Rattle.pay_member.specs.declared.event.Reply.{Reply}
+use Rattle.pay_member.specs.declared.event.Reply.TheVariants.{Asked, Took, Told}
+use Rattle.pay_record.specs.Records.{LoggedFields, record_of}
+use Rattle.pay_record.specs.Resuming.{entries_of_logged}
 
--- Of each file it is known what it has: of a real one it never is, and then nothing is claimed.
+-- The contents of each file are known. Those of a real file never are, and then nothing is claimed.
 abbrev pub AllKnown : {D : Type 0} → (D → Type 0) → Type 0
 AllKnown {D = D} is_known = (device : D) → is_known device
 
--- the id that is noted under a number; 0 where none is
+-- the id that is noted under a number, or 0 if there is none
 abbrev pub id_of : List ℕ → ℕ → ℕ
 id_of ids seq = slice_index_or ids seq 0
 
--- An id is noted under a number, and under each other one is what was there before.
+-- An id is noted under a number, and the ids under other numbers are unchanged.
 pub record NotesId (old : List ℕ) (seq id : ℕ) (new : List ℕ) : Type 0 where
   pub under : id_of new seq ≡ id
   pub others : (other : ℕ) → other ≢ seq → id_of new other ≡ id_of old other
 
--- under each number is what was there before
+-- the ids under all numbers are unchanged
 abbrev pub HasSameIds : List ℕ → List ℕ → Type 0
 HasSameIds old new = (seq : ℕ) → id_of new seq ≡ id_of old seq
 
--- the id that the owner gave the value of an ask's number; 0 where nobody gave one
+-- the id that the owner gave the submitted value of this reply, or 0 if nobody gave one
 abbrev pub id_under : List ℕ → Reply → ℕ
 id_under ids (Asked seq) = id_of ids seq
 id_under ids (Took t) = 0
 id_under ids (Told t) = 0
 
 abbrev pub with_id : List ℕ → HistoryEntry → LoggedFields
-with_id ids e = record { entry = e; id = id_under ids e.reply; whole = false }
+with_id ids e = record { entry = e; id = id_under ids e.reply }
 
 -- the records of some entries
 abbrev pub records_of : List ℕ → List HistoryEntry → List ℕ
 records_of ids entries = flat_map record_of (map (with_id ids) entries)
 
--- A settled log, and what waits to be written behind it, are together the records of these entries.
+-- A synced log, and what waits to be written after it, are together the records of these entries.
 pub record IsFollowing {D : Type 0} (is_known : D → Type 0) (seen : D → List ℕ)
     (may_leave : D → List ℕ → Type 0)
     (log : Log D) (pending : List ℕ) (entries : List HistoryEntry) : Type 0 where
@@ -51,7 +51,7 @@ pub record IsFollowing {D : Type 0} (is_known : D → Type 0) (seen : D → List
   pub are : entries_of_logged logged ≡ entries
   pub records : flat_map record_of logged ≡ flat_map (λ p. p) ps ++ pending
 
--- The same of so many entries.
+-- A synced log and what waits are together the records of `count` entries.
 pub record IsFollowingSome {D : Type 0} (is_known : D → Type 0) (seen : D → List ℕ)
     (may_leave : D → List ℕ → Type 0)
     (log : Log D) (pending : List ℕ) (count : ℕ) : Type 0 where
@@ -59,8 +59,14 @@ pub record IsFollowingSome {D : Type 0} (is_known : D → Type 0) (seen : D → 
   pub counted : length entries ≡ count
   pub follows : IsFollowing is_known seen may_leave log pending entries
 
--- So many entries of a history, from the first one that was missing on, were gathered: their
--- records wait behind those that waited.
+-- a log, how many entries have records in it or wait, and the records that wait
+pub record FollowingFields (D : Type 0) : Type 0 where
+  pub log : Log D
+  pub count : ℕ
+  pub pending : List ℕ
+
+-- Some entries of a history, from the first missing one on, were gathered: their records wait after
+-- those that waited.
 pub record HasGathered (ids : List ℕ) (history : List HistoryEntry) (count new_count : ℕ)
     (pending new_pending : List ℕ) : Type 0 where
   pub many : ℕ
@@ -68,7 +74,7 @@ pub record HasGathered (ids : List ℕ) (history : List HistoryEntry) (count new
   pub counted : new_count ≡ count + many
   pub records : new_pending ≡ pending ++ records_of ids (take many (drop count history))
 
--- what is written of the bytes that wait: one chunk, if any wait
+-- what is written of the bytes that wait: one record block, if any wait
 abbrev pub chunk_of_pending : List ℕ → List (List ℕ)
 chunk_of_pending [] = []
 chunk_of_pending (b ∷ bytes) = (b ∷ bytes) ∷ []

@@ -1,4 +1,2 @@
 pub mod Following
 pub mod Kept
-pub mod Restarting
-pub mod Steps

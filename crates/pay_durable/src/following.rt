@@ -1,49 +1,56 @@
 //! A log that follows a member's history.
 
-ghost use Rattle.std.specs.Prelude.{◌≡◌, ◌≢◌, ◌<◌, ◌≤◌, ◌↔◌, [], Err, IfOk, IfSome, IsTrue};
-ghost use Rattle.std.specs.Prelude.{OnErr, length};
-ghost use Rattle.pay_log.specs.declared.limits.TheConstants.{MOST_PAYLOAD};
+ghost use Rattle.std.specs.Prelude.{◌≡◌, ◌≢◌, ◌<◌, ◌≤◌, ◌⊎◌, IfSome, IsTrue, None, OnErr, OnOk};
+ghost use Rattle.std.specs.Prelude.{Err, Some, [], length};
+ghost use Rattle.pay_durable.specs.declared.following.TheConstants.{FULL};
+ghost use Rattle.pay_log.specs.declared.chunk.TheConstants.{MOST_PAYLOAD};
 ghost use Rattle.pay_durable.specs.Following.{AllKnown, HasGathered, IsFlushed, IsFollowingSome};
 ghost use Rattle.pay_durable.specs.Following.{id_under};
+ghost use Rattle.pay_durable.specs.Kept.{AreDurable, HasAtLeast};
+ghost use Rattle.pay_record.specs.Crashes.{AppendsOnDisk};
 
-use crate::failed_log::FailedLog;
-use crate::limits::FULL;
-use pay_log::{Device, Log, LogFault};
+use pay_log::{Device, DeviceFault, Log, MOST_PAYLOAD};
 use pay_member::{HistoryEntry, Reply};
 use pay_node::OwnMember;
-use pay_record::laws::legal_entries_have_room;
-use pay_record::push_record;
+use pay_record::laws::{legal_entries_have_room, one_list};
+use pay_record::{MOST_RECORD, append_records, push_record};
 use std::alloc::{AllocError, Global};
+use std::io::ErrorKind;
+use std::marker::Model;
 
-/// A log with the records of the first entries of a member's history, and those behind them that
-/// were gathered and aren't written yet.
+/// The most bytes that may wait before a further record is gathered.
+const FULL: usize = MOST_PAYLOAD - MOST_RECORD;
+
+/// A log with the records of the first entries of a member's history, and the records of later
+/// entries that were gathered and aren't written yet. Nothing is claimed of it after its log
+/// failed.
 #[derive(Drop)]
-pub struct Following<D: Device> {
+pub(crate) struct Following<D: Device> {
     log: Log<D>,
     count: usize,
     pending: Vec<u8>,
-    ghost short: { length pending.items ≤ MOST_PAYLOAD },
-    ghost follows: { ∥ (AllKnown D.is_known
-        → IsFollowingSome D.is_known D.seen D.may_leave log pending.items count) ∥₁ },
 }
 
-/// Why what waits isn't written.
-#[derive(Drop)]
-pub enum Unflushed<D: Device> {
-    /// Memory was refused.
-    Memory(Following<D>),
-    /// The log failed, by this call or before.
-    Failed(FailedLog<D>),
+impl<D: Device> Model for Following<D> {
+    ghost use Rattle.std.specs.Prelude.{◌≡◌, ◌≤◌, None, length};
+    ghost use Rattle.pay_durable.specs.Following.{AllKnown, FollowingFields, IsFollowingSome};
+    ghost use Rattle.pay_log.specs.declared.chunk.TheConstants.{MOST_PAYLOAD};
+
+    ghost Value = { FollowingFields D };
+
+    ghost view = { λ f. record { log = f.log; count = f.count; pending = f.pending.items } };
+
+    ghost invariant = { λ f. (length f.pending.items ≤ MOST_PAYLOAD)
+        × (AllKnown D.is_known → f.log.failure ≡ None
+        → IsFollowingSome D.is_known D.seen D.may_leave f.log f.pending.items f.count) };
 }
 
 impl<D: Device + Drop> Following<D> {
-    /// A log that has the records of so many entries.
-    pub fn new(alloc: Global, log: Log<D>, count: usize) -> Following<D>
+    /// Creates a log that has the records of `count` entries.
+    pub(crate) fn new(alloc: Global, log: Log<D>, count: usize) -> Following<D>
         requires { AllKnown D.is_known
             → IsFollowingSome D.is_known D.seen D.may_leave log [] count }
-        ensures log { result.log ≡ log }
-        ensures count { result.count ≡ count }
-        ensures pending { result.pending.items ≡ [] }
+        ensures { result ≡ record { log = log; count = count; pending = [] } }
     {
         Following {
             log,
@@ -52,107 +59,99 @@ impl<D: Device + Drop> Following<D> {
         }
     }
 
-    /// Whether the log has so many entries on the disk, and nothing waits behind them.
-    pub fn has(&self, entries: usize) -> bool
-        ensures { IsTrue result
-            ↔ ((self.now.pending.items ≡ []) × (entries ≤ self.now.count)) }
+    /// Returns how a write or a sync failed, if one did: from then on nothing is kept.
+    pub(crate) fn failure(&self) -> Option<ErrorKind>
+        ensures { result ≡ self.now.log.failure }
     {
-        self.pending.is_empty() && entries <= self.count
+        self.log.failure()
     }
 
-    /// How many entries the log has on the disk, where nothing waits behind them.
-    pub fn durable(&self) -> Option<usize>
-        ensures { IfSome result (λ entries. (self.now.pending.items ≡ [])
-            × (entries ≡ self.now.count)) }
+    /// Returns whether the log has `entries` entries on the disk, and nothing waits after them.
+    // promise: log stays (there)
+    pub(crate) fn has(&self, entries: usize) -> bool
+        ensures durable { IsTrue result →
+            HasAtLeast (AreDurable D.is_known D.seen D.may_leave) entries }
+        ensures there { self.now.log.failure ≡ None → self.now.pending ≡ []
+            → entries ≤ self.now.count → IsTrue result }
     {
-        if self.pending.is_empty() {
+        match self.durable() {
+            Some(count) => entries <= count,
+            None => false,
+        }
+    }
+
+    /// Returns how many entries the log has on the disk, if it works and nothing waits after them.
+    pub(crate) fn durable(&self) -> Option<usize>
+        ensures durable { IfSome result (AreDurable D.is_known D.seen D.may_leave) }
+        ensures count { self.now.log.failure ≡ None → self.now.pending ≡ []
+            → result ≡ Some self.now.count }
+    {
+        if self.pending.is_empty() && self.log.failure().is_none() {
             Some(self.count)
         } else {
             None
         }
     }
 
-    /// Gathers the records of the entries that a member has beyond these, until all are or very
-    /// many bytes wait. An ask's id is the one under its number. Says whether all are.
+    /// Gathers the records of the entries that `member` has beyond these, until all are gathered or
+    /// very many bytes wait. The id of a submitted value is the one in `ids` under its number.
     // promise: nothing is lost; log stays (missing); ids (gathered)
-    pub fn gather(
-        self,
+    pub(crate) fn gather(
+        &mut self,
         alloc: Global,
         member: &OwnMember,
         ids: &[u64],
-    ) -> (Following<D>, Result<bool, AllocError>)
-        ensures log { result.0.log ≡ self.log }
-        ensures gathered { HasGathered ids.now member.now.history self.count result.0.count
-            self.pending.items result.0.pending.items }
-        ensures whole { IfOk result.1 (λ whole.
-            IsTrue whole → length member.now.history ≤ result.0.count) }
-        ensures missing { OnErr result.1 (result.0.count < length member.now.history) }
+    ) -> Result<(), AllocError>
+        ensures log { self.new.log ≡ self.old.log }
+        ensures gathered { HasGathered ids.now member.now.history self.old.count self.new.count
+            self.old.pending self.new.pending }
+        ensures ended { OnOk result ((length member.now.history ≤ self.new.count)
+            ⊎ (FULL < length self.new.pending)) }
+        ensures missing { OnErr result (self.new.count < length member.now.history) }
     {
-        let Following {
-            log,
-            mut count,
-            mut pending,
-        } = self;
-        let answer = push_missing(alloc, &mut pending, &mut count, member, ids);
-        let gathered = Following {
-            log,
-            count,
-            pending,
-        };
-        (gathered, answer)
+        push_missing(alloc, &mut self.pending, &mut self.count, member, ids)
     }
 
-    /// Writes all that waits, and syncs. Where memory is refused, all is as it was. After a failed
-    /// write or sync nothing follows the history any more.
+    /// Writes all that waits, and syncs: after `Ok` its entries are on the disk, after those that
+    /// were. If memory runs out, all is unchanged. After a failed write or sync nothing is kept any
+    /// more.
     // promise: nothing is lost; log stays (memory, waiting)
-    pub fn flush(self, alloc: Global) -> Result<Following<D>, Unflushed<D>>
-        ensures flushed { IfOk result (λ after. IsFlushed D.is_known D.seen D.may_leave
-            self.log after.log self.pending.items after.pending.items) }
-        ensures count { IfOk result (λ after. after.count ≡ self.count) }
-        ensures memory { (back : _) → result ≡ Err (Unflushed.Memory back)
-            → (back.log ≡ self.log) × (back.count ≡ self.count) × (back.pending ≡ self.pending) }
-        ensures waiting { OnErr result (self.pending.items ≢ []) }
+    pub(crate) fn flush(&mut self, alloc: Global) -> Result<(), DeviceFault>
+        ensures flushed { OnOk result (IsFlushed D.is_known D.seen D.may_leave
+            self.old.log self.new.log self.old.pending self.new.pending) }
+        ensures on_disk { OnOk result (AppendsOnDisk D.is_known D.seen D.may_leave
+            self.old.log self.new.log self.old.pending) }
+        ensures count { self.new.count ≡ self.old.count }
+        ensures memory { result ≡ Err DeviceFault.Memory → self.new ≡ self.old }
+        ensures fails { (kind : ErrorKind) → result ≡ Err (DeviceFault.Disk kind)
+            → self.new.log.failure ≡ Some kind }
+        ensures waiting { OnErr result (self.old.pending ≢ []) }
     {
+        // for the proof, a law: the call does nothing
+        one_list();
         if self.pending.is_empty() {
-            return Ok(self);
+            return Ok(());
         }
-        let Following {
-            mut log,
-            count,
-            mut pending,
-        } = self;
-        match log.append(alloc, &pending) {
-            Ok(()) => {
-                pending.clear();
-                Ok(Following {
-                    log,
-                    count,
-                    pending,
-                })
-            }
-            Err(LogFault::Memory) => Err(Unflushed::Memory(Following {
-                log,
-                count,
-                pending,
-            })),
-            Err(_) => Err(Unflushed::Failed(FailedLog::new(log))),
-        }
+        append_records(alloc, &mut self.log, &self.pending)?;
+        self.pending.clear();
+        Ok(())
     }
 }
 
-// Appends the records of the entries from a place on, and counts them. Says whether all are there.
+// Appends the records of the entries from a place on, and counts them.
 fn push_missing(
     alloc: Global,
     pending: &mut Vec<u8>,
     count: &mut usize,
     member: &OwnMember,
     ids: &[u64],
-) -> Result<bool, AllocError>
+) -> Result<(), AllocError>
     requires { length pending.old.items ≤ MOST_PAYLOAD }
     ensures short { length pending.new.items ≤ MOST_PAYLOAD }
     ensures gathered { HasGathered ids.now member.now.history count.old count.new
         pending.old.items pending.new.items }
-    ensures whole { IfOk result (λ whole. IsTrue whole → length member.now.history ≤ count.new) }
+    ensures ended { OnOk result ((length member.now.history ≤ count.new)
+        ⊎ (FULL < length pending.new.items)) }
     ensures missing { OnErr result (count.new < length member.now.history) }
 {
     legal_entries_have_room();
@@ -162,10 +161,10 @@ fn push_missing(
         push_record(alloc, pending, entry, id_under(ids, entry.reply))?;
         *count += 1;
     }
-    Ok(*count >= history.len())
+    Ok(())
 }
 
-// The id that the owner gave the value of an ask's number.
+// Returns the id that the owner gave the submitted value of this `reply`.
 fn id_under(ids: &[u64], reply: Reply) -> u64
     ensures { result ≡ id_under ids.now reply }
 {

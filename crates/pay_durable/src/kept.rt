@@ -1,43 +1,132 @@
-//! A node whose history is kept in a log.
+//! A node with its history kept in a log.
 
-ghost use Rattle.std.specs.Prelude.{◌≡◌, ◌≤◌, [], IfSome, IsTrue, OnErr, OnOk, length};
-ghost use Rattle.pay_durable.specs.Following.{HasSameIds, NotesId};
-ghost use Rattle.pay_durable.specs.Kept.{AreDurable, HasAtLeast, HasEntries, IsHistoryKept};
+ghost use Rattle.std.specs.Prelude.{◌≡◌, ◌<◌, ◌≤◌, ◌⊎◌, Err, IsTrue, List, None, OnErr, OnOk, []};
+ghost use Rattle.std.specs.Prelude.{length, ℕ};
+ghost use Rattle.pay_durable.specs.Following.{AllKnown, HasGathered, HasSameIds};
+ghost use Rattle.pay_durable.specs.Following.{IsFollowingSome, NotesId};
+ghost use Rattle.pay_durable.specs.Kept.{AreDurable, IsHistoryKept};
+ghost use Rattle.pay_durable.specs.declared.following.TheConstants.{FULL};
+ghost use Rattle.pay_node.specs.Nodes.{HasEntries};
 
 use crate::following::Following;
-use crate::gathering::{Step, bring_up};
 use crate::keeper::Keeper;
-use crate::measuring::history_len;
-use pay_log::Device;
-use pay_node::{Beginning, Node};
+use pay_log::{Device, DeviceFault, Log};
+use pay_node::{Beginning, Gatherer, Node, OwnMember};
 use std::alloc::{AllocError, Global};
+use std::io::ErrorKind;
 use std::sync::{Mutex, Wait};
+
+/// A log that gathers from a node's member, with the ids of the owner's payments. The ids are
+/// locked while the member is. A submitted value that is gathered has its id there, since the id is
+/// noted before the value is submitted.
+#[derive(Drop)]
+struct Gathering<'a, R, D: Device> {
+    rt: &'a R,
+    alloc: Global,
+    ids: &'a Mutex<Vec<u64>>,
+    following: &'a mut Following<D>,
+}
+
+impl<R: Wait, D: Device + Drop> Gatherer for Gathering<'_, R, D> {
+    ghost gathers = { λ old member answer new.
+        (new.following.ghost_name ≡ old.following.ghost_name)
+        × (new.following.now.log ≡ old.following.now.log)
+        × ((ids : List ℕ) × HasGathered ids member.history
+        old.following.now.count new.following.now.count
+        old.following.now.pending new.following.now.pending)
+        × OnOk answer ((length member.history ≤ new.following.now.count)
+        ⊎ (FULL < length new.following.now.pending))
+        × OnErr answer (new.following.now.count < length member.history) };
+
+    fn gather(&mut self, member: &OwnMember) -> Result<(), AllocError> {
+        let ids = self.ids.lock(self.rt);
+        self.following.gather(self.alloc, member, &*ids)
+    }
+}
 
 /// A log that follows a node's history, and the ids of its owner's payments.
 ///
-/// While one thread syncs, others wait for the log's lock, each of which has noted before how long
-/// the history was. The first of them gathers what all of them need, and those behind it find that
-/// on the disk. Locks are taken in this order: the log's, the node's, the ids'.
+/// While one thread syncs, others wait for the log's lock. Each has noted before how long the
+/// history was. The first of them gathers what all of them need, and those after it find that on
+/// the disk. Locks are taken in this order: the log's, the node's, the ids'.
 #[derive(Drop)]
 pub struct Kept<D: Device> {
     alloc: Global,
-    following: Mutex<Option<Following<D>>>,
+    following: Mutex<Following<D>>,
     ids: Mutex<Vec<u64>>,
 }
 
 impl<D: Device + Drop> Kept<D> {
-    /// A log that has a member's history. The ids of the asks in it aren't looked at again.
-    pub fn new(alloc: Global, following: Following<D>) -> Kept<D> {
+    /// Creates the gate of a node with this log, which has the first `count` entries of a member's
+    /// history. The ids of the submitted values in it aren't looked at again.
+    pub fn new(alloc: Global, log: Log<D>, count: usize) -> Kept<D>
+        requires { AllKnown D.is_known
+            → IsFollowingSome D.is_known D.seen D.may_leave log [] count }
+    {
         Kept {
             alloc,
-            following: Mutex::new(Some(following)),
+            following: Mutex::new(Following::new(alloc, log, count)),
             ids: Mutex::new(Vec::new(alloc)),
         }
     }
 
-    /// Whether a write or a sync failed: from then on nothing is kept.
-    pub fn has_failed<R: Wait>(&self, rt: &R) -> bool {
-        self.following.lock(rt).is_none()
+    /// Returns how a write or a sync failed, if one did: from then on nothing is kept.
+    pub fn failure<R: Wait>(&self, rt: &R) -> Option<ErrorKind> {
+        self.following.lock(rt).failure()
+    }
+
+    // Syncs the log until it has at least `entries` entries, and all that the node's history had
+    // when it was measured. Another call may have done that already.
+    // promise: log stays (there)
+    fn keep_entries<R: Wait, S: Beginning>(
+        &self,
+        rt: &R,
+        node: &Node<S>,
+        entries: usize,
+        following: &mut Following<D>,
+    ) -> bool
+        requires { HasEntries node.now entries }
+        ensures kept { IsTrue result → IsHistoryKept D.is_known D.seen D.may_leave node.now }
+        ensures there { following.old.log.failure ≡ None → following.old.pending ≡ []
+            → entries ≤ following.old.count → IsTrue result }
+    {
+        if following.has(entries) {
+            return true;
+        }
+        for _ in rt.forever() {
+            if self.bring_up(rt, node, following).is_err() {
+                return false;
+            }
+            if following.has(entries) {
+                return true;
+            }
+        }
+        false
+    }
+
+    // Gathers from the node's member, and writes what was gathered. Nothing is gathered after the
+    // log failed.
+    // promise: log stays (memory)
+    fn bring_up<R: Wait, S: Beginning>(
+        &self,
+        rt: &R,
+        node: &Node<S>,
+        following: &mut Following<D>,
+    ) -> Result<(), DeviceFault>
+        ensures memory { result ≡ Err DeviceFault.Memory
+            → following.new.log ≡ following.old.log }
+    {
+        if let Some(kind) = following.failure() {
+            return Err(DeviceFault::Disk(kind));
+        }
+        let mut gathering = Gathering {
+            rt,
+            alloc: self.alloc,
+            ids: &self.ids,
+            following: &mut *following,
+        };
+        node.lend(rt, &mut gathering)?;
+        following.flush(self.alloc)
     }
 }
 
@@ -47,109 +136,28 @@ impl<D: Device + Drop> Keeper for Kept<D> {
     ghost has = { λ _ entries. AreDurable D.is_known D.seen D.may_leave entries };
 
     fn keep<R: Wait, S: Beginning>(&self, rt: &R, node: &Node<S>) -> bool {
-        let Ok(entries) = history_len(rt, node) else {
-            return false;
-        };
-        let mut guard = self.following.lock(rt);
-        keep_entries(rt, self.alloc, node, &self.ids, entries, &mut *guard)
+        let entries = node.history_len(rt);
+        let mut following = self.following.lock(rt);
+        self.keep_entries(rt, node, entries, &mut *following)
     }
 
     fn has_entries<R: Wait>(&self, rt: &R, entries: usize) -> bool {
-        has_entries(&*self.following.lock(rt), entries)
+        self.following.lock(rt).has(entries)
     }
 
-    // Before the ask, so whoever gathers an ask finds its id. An order that was refused is
-    // overwritten by the next one.
+    // The id is noted before the value is submitted, so it is found when the value is gathered. The
+    // id of a refused order is overwritten by the next one.
     fn order<R: Wait>(&self, rt: &R, seq: u32, id: u64) -> Result<(), AllocError> {
         let mut guard = self.ids.lock(rt);
         note(&mut *guard, seq as usize, id)
     }
 
     fn durable<R: Wait>(&self, rt: &R) -> Option<usize> {
-        durable_in(&*self.following.lock(rt))
+        self.following.lock(rt).durable()
     }
 }
 
-// Has a log so many entries on the disk, and all that the node's history had when it was measured.
-// Another call may have done that already.
-// promise: log stays (there)
-fn keep_entries<R, S, D>(
-    rt: &R,
-    alloc: Global,
-    node: &Node<S>,
-    ids: &Mutex<Vec<u64>>,
-    entries: usize,
-    slot: &mut Option<Following<D>>,
-) -> bool
-where
-    R: Wait,
-    S: Beginning,
-    D: Device + Drop,
-    requires { HasEntries node.now entries }
-    ensures kept { IsTrue result → IsHistoryKept D.is_known D.seen D.may_leave node.now }
-    ensures there { IfSome slot.old (λ f.
-        (f.pending.items ≡ []) → entries ≤ f.count → IsTrue result) }
-{
-    if has_entries(slot, entries) {
-        return true;
-    }
-    write_missing(rt, alloc, node, ids, entries, slot)
-}
-
-// Brings a log up to the node's history, until it has at least so many entries on the disk.
-fn write_missing<R, S, D>(
-    rt: &R,
-    alloc: Global,
-    node: &Node<S>,
-    ids: &Mutex<Vec<u64>>,
-    entries: usize,
-    slot: &mut Option<Following<D>>,
-) -> bool
-where
-    R: Wait,
-    S: Beginning,
-    D: Device + Drop,
-    requires { HasEntries node.now entries }
-    ensures { IsTrue result → IsHistoryKept D.is_known D.seen D.may_leave node.now }
-{
-    for _ in rt.forever() {
-        match bring_up(rt, alloc, node, ids, slot) {
-            Step::Done => return true,
-            Step::More => {
-                if has_entries(slot, entries) {
-                    return true;
-                }
-            }
-            Step::NoMemory | Step::Failed(_) | Step::Gone => return false,
-        }
-    }
-    false
-}
-
-// Whether a log has so many entries on the disk, and nothing waits behind them.
-fn has_entries<D: Device + Drop>(slot: &Option<Following<D>>, entries: usize) -> bool
-    ensures durable { IsTrue result →
-        HasAtLeast (AreDurable D.is_known D.seen D.may_leave) entries }
-    ensures there { IfSome slot.now (λ f.
-        (f.pending.items ≡ []) → entries ≤ f.count → IsTrue result) }
-{
-    match slot {
-        Some(following) => following.has(entries),
-        None => false,
-    }
-}
-
-// How many entries a log has on the disk, if there is one and it is known.
-fn durable_in<D: Device + Drop>(slot: &Option<Following<D>>) -> Option<usize>
-    ensures { IfSome result (AreDurable D.is_known D.seen D.may_leave) }
-{
-    match slot {
-        Some(following) => following.durable(),
-        None => None,
-    }
-}
-
-// Notes an id under a number.
+// Notes an id under the number `seq`.
 // promise: ids (noted, err)
 fn note(ids: &mut Vec<u64>, seq: usize, id: u64) -> Result<(), AllocError>
     ensures noted { OnOk result (NotesId ids.old.items seq id ids.new.items) }
@@ -163,7 +171,7 @@ fn note(ids: &mut Vec<u64>, seq: usize, id: u64) -> Result<(), AllocError>
     Ok(ids.push(id)?)
 }
 
-// Notes that none is known under the numbers up to this one.
+// Notes that no id is known under the numbers up to `seq`.
 fn fill_to(ids: &mut Vec<u64>, seq: usize) -> Result<(), AllocError>
     requires { length ids.old.items ≤ seq }
     ensures filled { OnOk result (length ids.new.items ≡ seq) }

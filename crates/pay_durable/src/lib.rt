@@ -1,8 +1,7 @@
 //! What has to be on the disk before anything leaves a node.
 //!
-//! A [`Keeper`] is asked to keep a node's history: [`Kept`] gathers it and writes it to a log,
-//! [`Unkept`] keeps nothing. [`DurableOutput`] is an output that asks it before each write, and
-//! [`restart`] reads a log and goes on from it.
+//! A [`Keeper`], the durability gate, keeps a node's history: [`Kept`] gathers it and writes it to
+//! a log, [`Unkept`] keeps nothing. [`DurableOutput`] is an output that asks it before each write.
 //!
 //! ```
 //! let mut output = DurableOutput::new(&rt, &keeper, &node, writer);
@@ -10,20 +9,10 @@
 //! ```
 #![tactic(auto)]
 
-mod durable_output;
-mod failed_log;
 mod following;
-mod gathering;
 mod keeper;
 mod kept;
-mod limits;
-mod measuring;
-mod restarting;
-mod withheld_output;
+pub mod laws;
 
-pub use durable_output::DurableOutput;
-pub use failed_log::FailedLog;
-pub use following::{Following, Unflushed};
-pub use keeper::{Keeper, Unkept};
+pub use keeper::{DurableOutput, Keeper, Unkept};
 pub use kept::Kept;
-pub use restarting::{Restarted, begin, restart, view_log_of};

@@ -9,9 +9,9 @@ use Rattle.std.proofs.Math.Seq.{map-set_same}
 use Rattle.std.proofs.lemmas.Bool.{cases_eq, cases_lt}
 use Rattle.pay_echo.specs.Plain.{AreDistinct, is_at, IsPlaceOf}
 use Rattle.pay_echo.specs.Masks.{has, with_process, place_by, votes_by, AreVotes, mask_of, values_of, masks_of, vote_places, with_place, tally_by, TallyFields, IsTally}
-use Rattle.pay_echo.specs.declared.candidate.Candidate.{Candidate}
-use Rattle.pay_echo.specs.declared.vote_kind.VoteKind.{VoteKind}
-use Rattle.pay_echo.specs.declared.vote_kind.VoteKind.TheVariants as kind
+use Rattle.pay_echo.specs.declared.tally.Candidate.{Candidate}
+use Rattle.pay_echo.specs.declared.instance.VoteKind.{VoteKind}
+use Rattle.pay_echo.specs.declared.instance.VoteKind.TheVariants as kind
 use Rattle.pay_echo.proofs.MaskVotes.{length-votes_by, votes_by-at, votes_by-nobody, votes_by-one, counts_are_votes, place_is, place_is_none, AreVotes-none, AreVotes-nobody, AreVotes-one}
 
 -- before any vote

@@ -6,7 +6,7 @@ use Rattle.std.proofs.lemmas.List.FromFn.{fill_by_all}
 use Rattle.pay_echo.specs.Broadcast.{Group, Vote, IsForeign, echoed, echo_of, ready_of, readied}
 use Rattle.pay_echo.specs.Meaning.{Meaning, meaning_of, Sees}
 use Rattle.pay_echo.specs.Moves.{IsMoves, Foresees}
-use Rattle.pay_echo.specs.declared.moves.Moves.{Moves}
+use Rattle.pay_echo.specs.declared.instance.Moves.{Moves}
 use Rattle.pay_echo.specs.Step.{vote_at, vote_before, moves_by, with_moves, with_vote, IsPlaced, after}
 use Rattle.pay_echo.specs.Plain.{meaning_by}
 use Rattle.pay_echo.proofs.OneMore.{readied-none, delivered-none}

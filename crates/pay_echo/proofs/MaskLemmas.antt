@@ -10,7 +10,7 @@ use Rattle.pay_echo.specs.Moves.{Foresees}
 use Rattle.pay_echo.specs.Step.{vote_at, vote_before, put_echo, put_ready, put_if, with_moves}
 use Rattle.pay_echo.specs.Plain.{value_at, votes_at_places, IsPlace, AreDistinct, meaning_by, AreVotePlaces}
 use Rattle.pay_echo.specs.Masks.{TallyFields, place_before, IsTallied}
-use Rattle.pay_echo.specs.declared.moves.Moves.{Moves}
+use Rattle.pay_echo.specs.declared.instance.Moves.{Moves}
 use Rattle.pay_echo.proofs.PlainLemmas.{counted-ArePlaces, counted-meaning, length-put_ready}
 
 -- ---- a process voted where a place stands

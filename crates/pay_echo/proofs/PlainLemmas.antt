@@ -10,7 +10,7 @@ use Rattle.pay_frame.specs.declared.limits.TheConstants.{MOST_MEMBERS}
 use Rattle.pay_echo.specs.Broadcast.{Group, Vote, Send, Echo, Ready, IsForeign, value_of}
 use Rattle.pay_echo.specs.Step.{vote_at, is_send, put_echo, put_ready, put_if, with_moves}
 use Rattle.pay_echo.specs.Plain.{value_at, votes_at_places, IsPlace, meaning_by, AreVotePlaces, AreDistinct}
-use Rattle.pay_echo.specs.declared.moves.Moves.{Moves}
+use Rattle.pay_echo.specs.declared.instance.Moves.{Moves}
 
 pub votes_at_places-none : (values : List (List ℕ)) (n : ℕ) → votes_at_places values (replicate n None) ≡ replicate n None
 votes_at_places-none values zero = refl

@@ -8,7 +8,7 @@ A = 65 ∷ []
 abbrev pub B : List ℕ
 B = 66 ∷ []
 
--- process 0 of four, of which one may be faulty
+-- process 0 of four, and up to one of them may be faulty
 abbrev pub four : Group
 four = record { members = 4; faults = 1; own = 0 }
 
@@ -29,7 +29,7 @@ two_echoes = Send A ∷ Echo 1 A ∷ Echo 2 B ∷ Echo 2 A ∷ []
 abbrev pub three_echoes : List Vote
 three_echoes = two_echoes ++ Echo 3 A ∷ []
 
--- the same READY twice
+-- one READY, twice
 abbrev pub one_ready : List Vote
 one_ready = three_echoes ++ Ready 1 A ∷ Ready 1 A ∷ []
 

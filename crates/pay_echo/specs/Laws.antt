@@ -1,4 +1,4 @@
--- What holds of the answers of `Broadcast`, as statements. Each is proved as a public law.
+-- Statements about the answers of `Broadcast`. Each is proved as a public law.
 use Rattle.std.specs.Prelude.{◌≡◌, ◌≢◌, ℕ, ◌+◌, ◌*◌, ◌<◌, ◌≤◌, ◌⊎◌, ◌↔◌, Bool, true, if◌then◌else◌}
 use Rattle.std.specs.Prelude.{List, [], ◌∷◌, ◌++◌, Option, Some, None, is_some, Contains}
 use Rattle.std.specs.Option.{option_or}
@@ -9,7 +9,7 @@ use Rattle.pay_echo.specs.Broadcast.{readied, ready_of, ready_set, may_deliver, 
 use Rattle.pay_echo.specs.Meaning.{Meaning, meaning_of, Sees}
 use Rattle.pay_echo.specs.Moves.{IsMoves, Foresees}
 use Rattle.pay_echo.specs.Step.{vote_before}
-use Rattle.pay_echo.specs.declared.moves.Moves.{Moves}
+use Rattle.pay_echo.specs.declared.instance.Moves.{Moves}
 
 -- ---- before any vote
 
@@ -22,13 +22,13 @@ NotReadyAtFirst = (g : Group) → readied g [] ≡ None
 abbrev pub NotDeliveredAtFirst : Type 0
 NotDeliveredAtFirst = (g : Group) → delivered g [] ≡ None
 
--- ---- one vote more
+-- ---- one more vote
 
--- what a SEND makes oneself echo is its value
+-- what a SEND makes the process echo is its value
 abbrev pub SentIsItsValue : Type 0
 SentIsItsValue = (x : Vote) → (value_if_send x ≡ None) ⊎ (value_if_send x ≡ Some (value_of x))
 
--- a vote's value, where something holds
+-- a vote's value, if something holds
 abbrev pub value_if : Bool → Vote → Option (List ℕ)
 value_if holds x = if holds then Some (value_of x) else None
 
@@ -49,7 +49,7 @@ DeliveredByOneMore =
     → delivered g (votes ++ x ∷ [])
     ≡ option_or (delivered g votes) (value_if (may_deliver g (votes ++ x ∷ []) (value_of x)) x)
 
--- of votes that came, what was foreseen of one more is what became known by it
+-- what was foreseen of one more vote, after any votes, is what became known by it
 abbrev pub ForeseenBecame : Type 0
 ForeseenBecame =
     (g : Group) (votes : List Vote) (old new : Meaning) (x : Vote) (moves : Moves)
@@ -121,7 +121,7 @@ SecondReady =
     → p ≢ g.own → ready_of g votes p ≡ Some w
     → meaning_of g (votes ++ Ready p v ∷ []) ≡ meaning_of g votes
 
--- ---- who is in a set, and whose vote came
+-- ---- which processes are in a set, and which votes came
 
 abbrev pub InEchoSet : Type 0
 InEchoSet =
@@ -157,7 +157,7 @@ ReadyCame =
     (g : Group) (votes : List Vote) (p : ℕ) (v : List ℕ) → p ≢ g.own → ready_of g votes p ≡ Some v
     → Contains votes (Ready p v)
 
--- where one came, the first is known
+-- if a SEND came, the first one is known
 abbrev pub SendIsEchoed : Type 0
 SendIsEchoed = (votes : List Vote) (v : List ℕ) → Contains votes (Send v) → echoed votes ≢ None
 
@@ -171,20 +171,20 @@ ReadyCounts =
     (g : Group) (votes : List Vote) (p : ℕ) (v : List ℕ) → p ≢ g.own → Contains votes (Ready p v)
     → ready_of g votes p ≢ None
 
--- the same vote, for another value
+-- this vote, for another value
 abbrev pub with_value : List ℕ → Vote → Vote
 with_value v (Send w) = Send v
 with_value v (Echo p w) = Echo p v
 with_value v (Ready p w) = Ready p v
 
--- a vote stands in another's place exactly where one of its kind came from its process
+-- a vote stands in another's place exactly if a vote of its kind came from its process
 abbrev pub VotedIsTaken : Type 0
 VotedIsTaken =
     (g : Group) (votes : List Vote) (x : Vote) → IsForeign g x
     → (is_some (vote_before (meaning_of g votes) x) ≡ true)
     ↔ ((v : List ℕ) × Contains votes (with_value v x))
 
--- ---- why one is READY, and why one delivers
+-- ---- why a process is READY, and why it delivers
 
 abbrev pub HasEchoQuorum : Group → List Vote → List ℕ → Type 0
 HasEchoQuorum g votes v = g.members + g.faults < 2 * size g.members (echo_set g votes v)
@@ -204,7 +204,7 @@ abbrev pub WhyDelivered : Type 0
 WhyDelivered =
     (g : Group) (votes : List Vote) (v : List ℕ) → delivered g votes ≡ Some v → HasReadys g votes v
 
--- where one may, one does
+-- if a process may send READY, it does
 abbrev pub QuorumMakesReady : Type 0
 QuorumMakesReady =
     (g : Group) (votes : List Vote) (v : List ℕ) → HasEchoQuorum g votes v → readied g votes ≢ None
@@ -217,7 +217,7 @@ abbrev pub ReadysDeliver : Type 0
 ReadysDeliver =
     (g : Group) (votes : List Vote) (v : List ℕ) → HasReadys g votes v → delivered g votes ≢ None
 
--- two quorums of ECHOs that one process took are for one value
+-- two quorums of ECHOs that a process received are for one value
 abbrev pub OneValueByQuorum : Type 0
 OneValueByQuorum =
     (g : Group) (votes : List Vote) (v w : List ℕ) → HasEchoQuorum g votes v

@@ -6,20 +6,20 @@ use Rattle.std.specs.Int.{bit_at}
 use Rattle.std.specs.List.{count_by, find, range_with_len}
 use Rattle.pay_echo.specs.Broadcast.{Group, Vote, Send, Echo, Ready}
 use Rattle.pay_echo.specs.Plain.{AreDistinct, AreVotePlaces}
-use Rattle.pay_echo.specs.declared.candidate.Candidate.{Candidate}
-use Rattle.pay_echo.specs.declared.vote_kind.VoteKind.{VoteKind}
-use Rattle.pay_echo.specs.declared.vote_kind.VoteKind.TheVariants as kind
+use Rattle.pay_echo.specs.declared.tally.Candidate.{Candidate}
+use Rattle.pay_echo.specs.declared.instance.VoteKind.{VoteKind}
+use Rattle.pay_echo.specs.declared.instance.VoteKind.TheVariants as kind
 
 -- whether a process is in a mask
 abbrev pub has : ℕ → ℕ → Bool
 has mask process = bit_at mask process == 1
 
--- the mask with one process more
+-- the mask with one more process
 abbrev pub with_process : ℕ → ℕ → ℕ
 with_process mask process = bit_or mask (2 ^ process)
 
--- Whose vote is for which value: the place of the first mask that the process is in. There is one
--- mask for each value.
+-- The place of the first mask that the process is in. There is one mask for each value, so this is
+-- the value that the process voted for.
 unfoldable pub place_by : List ℕ → ℕ → Option ℕ
 place_by masks process =
     find (λ k. has (slice_index masks k) process) (range_with_len 0 (length masks))
@@ -27,18 +27,18 @@ place_by masks process =
 unfoldable pub votes_by : ℕ → List ℕ → List (Option ℕ)
 votes_by members masks = map (place_by masks) (range_with_len 0 members)
 
--- Each mask is of these members, and no process is in two.
+-- Each mask is one of these members, and no process is in two masks.
 pub record AreMasks (members : ℕ) (masks : List ℕ) : Type 0 where
   pub below : (k : ℕ) → slice_index masks k < 2 ^ members
   pub disjoint :
       (j k process : ℕ) → j ≢ k → has (slice_index masks j) process ≡ true
       → has (slice_index masks k) process ≡ false
 
--- The mask of all who voted: those who are in one of the masks.
+-- The mask of all processes that voted: those that are in one of the masks.
 abbrev pub IsUnion : ℕ → List ℕ → Type 0
 IsUnion voted masks = (process : ℕ) → has voted process ≡ is_some (place_by masks process)
 
--- The masks of one kind of votes, and the mask of all who voted so.
+-- The masks of one kind of votes, and the mask of all processes with a vote of this kind.
 pub record AreVotes (members : ℕ) (masks : List ℕ) (voted : ℕ) : Type 0 where
   pub are : AreMasks members masks
   pub below : voted < 2 ^ members
@@ -81,8 +81,8 @@ tally_by members candidates =
       readys = votes_by members (masks_of kind.Ready candidates);
     }
 
--- The values differ, and of either kind no process is in the masks of two, and the mask of all who
--- voted is the union of the others. All fit 128 bits.
+-- The values differ. Of either kind no process is in the masks of two values, and the mask of all
+-- voters is the union of the others. All fit 128 bits.
 pub record IsTally (members : ℕ) (candidates : List Candidate) (echoed readied : ℕ) : Type 0 where
   pub few : members ≤ 128
   pub distinct : AreDistinct (values_of candidates)

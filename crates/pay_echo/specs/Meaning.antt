@@ -1,4 +1,4 @@
--- What one instance knows: the answers of `Broadcast` to the votes that came.
+-- What an instance knows: the answers of `Broadcast` to the votes that came.
 use Rattle.std.specs.Prelude.{◌≡◌, ℕ, Bool, ◌&&◌, List, [], ◌∷◌, ◌++◌, map, Option, is_none}
 use Rattle.std.specs.Prelude.{is_some}
 use Rattle.std.specs.List.{range_with_len}
@@ -8,10 +8,10 @@ use Rattle.pay_echo.specs.Broadcast.{Group, Vote, echoed, echo_of, readied, read
 pub record Meaning : Type 0 where
   pub group : Group
   pub echoed : Option (List ℕ)
-  -- at place p the ECHO of process p, at one's own place the value echoed
+  -- at place p the ECHO of process p, at the process's own place the value echoed
   pub echoes : List (Option (List ℕ))
   pub readied : Option (List ℕ)
-  -- at place p the READY of process p, at one's own place the value readied
+  -- at place p the READY of process p, at the process's own place the value readied
   pub readys : List (Option (List ℕ))
   pub delivered : Option (List ℕ)
 
@@ -26,7 +26,7 @@ meaning_of g votes =
       delivered = delivered g votes;
     }
 
--- One vote more, whatever votes came before.
+-- One more vote, whatever votes came before.
 abbrev pub Sees : Meaning → Meaning → Vote → Type 0
 Sees old new x =
     (g : Group) (votes : List Vote) → old ≡ meaning_of g votes

@@ -2,7 +2,7 @@
 use Rattle.std.specs.Prelude.{◌≡◌, List, [], ◌∷◌, ◌++◌}
 use Rattle.pay_echo.specs.Broadcast.{Group, Vote}
 use Rattle.pay_echo.specs.Meaning.{Meaning, meaning_of, became}
-use Rattle.pay_echo.specs.declared.moves.Moves.{Moves}
+use Rattle.pay_echo.specs.declared.instance.Moves.{Moves}
 
 pub record IsMoves (old new : Meaning) (moves : Moves) : Type 0 where
   pub echo : moves.echo ≡ became old.echoed new.echoed

@@ -6,7 +6,7 @@ use Rattle.pay_echo.specs.Broadcast.{Group}
 use Rattle.pay_echo.specs.Meaning.{Meaning}
 use Rattle.pay_echo.specs.Step.{vote_at}
 
--- the value at a place, where there is one
+-- the value at a place, if there is one
 abbrev pub value_at : List (List ℕ) → Option ℕ → Option (List ℕ)
 value_at values None = None
 value_at values (Some k) = slice_get values k
@@ -24,12 +24,12 @@ abbrev pub AreDistinct : List (List ℕ) → Type 0
 AreDistinct values =
     (j k : ℕ) (v : List ℕ) → slice_get values j ≡ Some v → slice_get values k ≡ Some v → j ≡ k
 
--- where a value stands, if it stands anywhere
+-- the place of a value, if it stands anywhere
 abbrev pub IsPlaceOf : List ℕ → List (List ℕ) → Option ℕ → Type 0
 IsPlaceOf v values None = (k : ℕ) → slice_get values k ≢ Some v
 IsPlaceOf v values (Some k) = slice_get values k ≡ Some v
 
--- the place is one of so many
+-- the place is below n
 abbrev pub IsPlace : ℕ → Option ℕ → Type 0
 IsPlace n None = Unit {0}
 IsPlace n (Some k) = k < n
@@ -46,8 +46,8 @@ meaning_by g values echoes readys delivered =
       delivered = value_at values delivered;
     }
 
--- There are few members, one's own number is one of theirs, no value is kept twice, each member has
--- its places, and each place is one of the values.
+-- There are few members, the process's own number is one of theirs, and no value is kept twice.
+-- Each member has its places, and each place is one of the values.
 pub record AreVotePlaces (g : Group) (values : List (List ℕ)) (echoes readys : List (Option ℕ))
     (delivered : Option ℕ) : Type 0 where
   pub few : g.members ≤ MOST_MEMBERS

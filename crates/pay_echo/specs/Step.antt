@@ -1,14 +1,14 @@
--- What one vote does to what is known, worked out from that alone. A tool of this crate: its
--- representations are proved against it, and a law ties it to `Meaning`.
+-- What one vote does to what is known, worked out from that alone. This is a tool of this crate:
+-- its representations are proved against it, and a law ties it to `Meaning`.
 use Rattle.std.specs.Prelude.{◌≡◌, ◌<◌, length, ℕ, ◌+◌, ◌*◌, Bool, false, true, ◌&&◌, ◌||◌, nat_lt}
 use Rattle.std.specs.Prelude.{if◌then◌else◌, List, slice_set, slice_index_or, Option, Some, None}
 use Rattle.std.specs.Prelude.{is_none}
 use Rattle.std.specs.List.{count_by}
 use Rattle.pay_echo.specs.Broadcast.{Vote, Send, Echo, Ready, value_of, is_for}
 use Rattle.pay_echo.specs.Meaning.{Meaning}
-use Rattle.pay_echo.specs.declared.moves.Moves.{Moves}
+use Rattle.pay_echo.specs.declared.instance.Moves.{Moves}
 
--- what process p voted: nothing, where there is no such process
+-- the vote of process p, or nothing if there is no such process
 abbrev pub vote_at : List (Option (List ℕ)) → ℕ → Option (List ℕ)
 vote_at votes p = slice_index_or votes p None
 
@@ -28,7 +28,8 @@ is_ready (Send v) = false
 is_ready (Echo p v) = false
 is_ready (Ready p v) = true
 
--- how many ECHOs and READYs there are for this vote's value, itself included; oneself echoes a SEND
+-- the counts of ECHOs and READYs for this vote's value, including this vote; the process echoes a
+-- SEND
 abbrev pub echo_count : Meaning → Vote → ℕ
 echo_count m x =
     let before = count_by (is_for (value_of x)) m.echoes in
@@ -39,7 +40,7 @@ ready_count m x =
     let before = count_by (is_for (value_of x)) m.readys in
     if is_ready x then before + 1 else before
 
--- whether one may send READY, or deliver, for a value of which there are so many
+-- whether the process may send READY, or deliver, for a value with these counts
 abbrev pub can_ready : Meaning → ℕ → ℕ → Bool
 can_ready m echoes readys =
     is_none m.readied
@@ -48,7 +49,8 @@ can_ready m echoes readys =
 abbrev pub can_deliver : Meaning → ℕ → Bool
 can_deliver m readys = is_none m.delivered && nat_lt (2 * m.group.faults) readys
 
--- what a vote makes known where none stands in its place; one's own READY counts for the delivery
+-- what a vote makes known if none stands in its place; the process's own READY counts for the
+-- delivery
 unfoldable pub moves_by : Meaning → Vote → Moves
 moves_by m x =
     let ready = can_ready m (echo_count m x) (ready_count m x) in
@@ -73,8 +75,8 @@ put_ready (Ready p v) x readys = slice_set readys p (Some x)
 abbrev pub put_if : {X : Type 0} → Bool → ℕ → X → List (Option X) → List (Option X)
 put_if due p x votes = if due then slice_set votes p (Some x) else votes
 
--- with this vote, where none stands in its place, and with the READY and the delivery that are told
--- with it
+-- with this vote, if none stands in its place, and with the READY and the delivery that come with
+-- it
 abbrev pub with_moves : Meaning → Vote → Moves → Meaning
 with_moves m x moves =
     record m {
@@ -85,11 +87,11 @@ with_moves m x moves =
       delivered = if moves.deliver then Some (value_of x) else m.delivered;
     }
 
--- with this vote, where none stands in its place, and what it makes known
+-- with this vote, if none stands in its place, and what it makes known
 unfoldable pub with_vote : Meaning → Vote → Meaning
 with_vote m x = with_moves m x (moves_by m x)
 
--- Each member has its places, and what oneself echoed and readied stands at one's own.
+-- Each member has its places, and what the process echoed and readied stands at its own place.
 pub record IsPlaced (m : Meaning) : Type 0 where
   pub own : m.group.own < m.group.members
   pub echoes : length m.echoes ≡ m.group.members
@@ -97,6 +99,6 @@ pub record IsPlaced (m : Meaning) : Type 0 where
   pub echoed : m.echoed ≡ vote_at m.echoes m.group.own
   pub readied : m.readied ≡ vote_at m.readys m.group.own
 
--- A vote counts where none stands in its place, and does nothing else.
+-- A vote counts if none stands in its place, and otherwise does nothing.
 abbrev pub after : Meaning → Vote → Meaning
 after m x = if is_none (vote_before m x) then with_vote m x else m

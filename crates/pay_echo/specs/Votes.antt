@@ -1,7 +1,7 @@
--- Votes as they are told to an instance.
+-- Votes as they are passed to an instance.
 use Rattle.pay_echo.specs.Broadcast.{Vote, Send, Echo, Ready}
-use Rattle.pay_echo.specs.declared.vote.VoteRef.{VoteRef}
-use Rattle.pay_echo.specs.declared.vote.VoteRef.TheVariants as given
+use Rattle.pay_echo.specs.declared.instance.VoteRef.{VoteRef}
+use Rattle.pay_echo.specs.declared.instance.VoteRef.TheVariants as given
 
 -- the vote that a `VoteRef` lends
 abbrev pub vote_of_ref : VoteRef → Vote

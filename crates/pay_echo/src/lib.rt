@@ -1,9 +1,9 @@
-//! One instance of authenticated double-echo broadcast, as one process of a group sees it.
+//! An instance of authenticated double-echo broadcast, as a process of a group sees it.
 //!
-//! What the process has echoed, readied and delivered is defined as questions about the list of all
-//! votes that it took (`specs/Broadcast.antt`). [`Instance`] answers them vote by vote:
+//! `specs/Broadcast.antt` defines what the process has echoed, readied and delivered, from the list
+//! of all votes that it received. [`Instance`] answers these questions vote by vote:
 //! [`MaskInstance`] from sets of processes kept as bits, and [`PlainInstance`], for tests to
-//! compare it with, from plain lists. [`laws`] says what holds of them.
+//! compare with, from plain lists. [`laws`] states what holds of them.
 //!
 //! ```
 //! let mut instance = MaskInstance::fresh(alloc, group)?;
@@ -13,21 +13,12 @@
 //! ```
 #![tactic(auto)]
 
-mod candidate;
-pub mod examples;
-mod group;
 mod instance;
 pub mod laws;
 mod mask;
-mod moves;
 mod plain;
 mod tally;
-mod vote;
-mod vote_kind;
 
-pub use group::Group;
-pub use instance::Instance;
+pub use instance::{Group, Instance, Moves, VoteRef};
 pub use mask::MaskInstance;
-pub use moves::Moves;
 pub use plain::PlainInstance;
-pub use vote::VoteRef;

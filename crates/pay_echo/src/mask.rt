@@ -3,33 +3,29 @@ ghost use Rattle.std.specs.Prelude.{slice_get, slice_index_or, IfOk, OnOk, OnErr
 ghost use Rattle.std.specs.Prelude.{true, false};
 ghost use Rattle.std.specs.List.{count_by};
 ghost use Rattle.pay_echo.specs.Broadcast.{IsForeign, is_for};
-ghost use Rattle.pay_echo.specs.Votes.{vote_of_ref};
+ghost use Rattle.pay_echo.specs.Masks.{place_before};
 ghost use Rattle.pay_echo.specs.Step.{vote_before, echo_count, ready_count, moves_by, can_ready};
 ghost use Rattle.pay_echo.specs.Step.{can_deliver, put_echo, put_ready, put_if, with_moves};
 ghost use Rattle.pay_echo.specs.Step.{IsPlaced};
-ghost use Rattle.pay_echo.specs.Masks.{place_before};
+ghost use Rattle.pay_echo.specs.Votes.{vote_of_ref};
 
-use crate::group::Group;
-use crate::instance::Instance;
-use crate::moves::Moves;
+use crate::instance::{Group, Instance, Moves, VoteKind, VoteRef};
 use crate::tally::Tally;
-use crate::vote::VoteRef;
-use crate::vote_kind::VoteKind;
 use pay_frame::MOST_MEMBERS;
 use std::alloc::{AllocError, Global};
 use std::marker::Model;
 
-/// An instance as a short list of values, each with a mask of the processes whose ECHO it is and
-/// one of those whose READY it is. A count of votes is a count of bits.
+/// An instance kept as a short list of values. Each value has a mask of the processes that sent
+/// ECHO for it, and a mask of those that sent READY. A count of votes is a count of bits.
 ///
-/// A mask stands beside its value in one list: a new value makes one list grow, so refused memory
-/// can't leave a mask without its value.
+/// A mask stands beside its value in one list. A new value makes only this list grow, so a lack of
+/// memory can't leave a mask without its value.
 #[derive(Drop)]
 pub struct MaskInstance {
     group: Group,
-    // the votes; one's own are what oneself echoed and readied
+    // the votes; this process's own votes are what it echoed and readied
     tally: Tally,
-    // the place of the value delivered
+    // the place of the delivered value
     delivered: Option<usize>,
 }
 
@@ -92,7 +88,7 @@ impl Instance for MaskInstance {
 }
 
 impl MaskInstance {
-    // Whether a vote of that process and kind came before.
+    // Returns whether a vote of that process and kind came before.
     fn is_repeated(&self, vote: VoteRef) -> bool
         requires { IsForeign self.now.group (vote_of_ref vote) }
         ensures voted { result ≡ is_some (vote_before self.now (vote_of_ref vote.entry)) }
@@ -105,21 +101,21 @@ impl MaskInstance {
         }
     }
 
-    // Whether oneself sent a READY.
+    // Returns whether this process sent a READY.
     fn has_readied(&self) -> bool
         ensures { result ≡ is_some self.now.readied }
     {
         self.tally.has_voted(VoteKind::Ready, self.group.own)
     }
 
-    // Whether a value is delivered.
+    // Returns whether a value is delivered.
     fn has_delivered(&self) -> bool
         ensures { result ≡ is_some self.now.delivered }
     {
         self.delivered.is_some()
     }
 
-    // How many ECHOs and READYs there are for a value.
+    // Returns the counts of ECHOs and READYs for `value`.
     fn counts_for(&self, value: &[u8]) -> Counts
         ensures echoes { result.echoes ≡ count_by (is_for value.now) self.now.echoes }
         ensures readys { result.readys ≡ count_by (is_for value.now) self.now.readys }
@@ -138,7 +134,7 @@ impl MaskInstance {
         }
     }
 
-    // How many there are for this vote's value, itself included.
+    // Returns the counts for the value of `vote`, including this vote.
     fn counts_with(&self, vote: VoteRef) -> Counts
         ensures echoes { result.echoes ≡ echo_count self.now (vote_of_ref vote.entry) }
         ensures readys { result.readys ≡ ready_count self.now (vote_of_ref vote.entry) }
@@ -159,8 +155,9 @@ impl MaskInstance {
         }
     }
 
-    // What this vote makes known where none came before it. Where READY was sent and a value is
-    // delivered, it can't make more known than an ECHO, and no value is compared.
+    // Returns what `vote` makes known if no vote of its process and kind came before. If READY was
+    // sent and a value is delivered, it can't make more known than an ECHO, and no value is
+    // compared.
     #[tactic(auto, unfolding(crate::specs::Step::moves_by))]
     fn moves_by(&self, vote: VoteRef) -> Moves
         ensures { result ≡ moves_by self.now (vote_of_ref vote.entry) }
@@ -197,7 +194,7 @@ impl MaskInstance {
         !self.has_delivered() && 2 * u32::from(self.group.faults) < readys
     }
 
-    // Writes a vote in its place, and what it is told to make known.
+    // Writes a vote in its place, and what the caller says that it makes known.
     fn write(
         &mut self,
         alloc: Global,
@@ -222,14 +219,14 @@ impl MaskInstance {
     }
 }
 
-// How many ECHOs and READYs there are.
+// The counts of ECHOs and of READYs.
 #[derive(Clone, Copy)]
 struct Counts {
     echoes: u32,
     readys: u32,
 }
 
-// Takes a vote for the value at a place.
+// Adds a vote for the value at `place`.
 fn put(tally: &mut Tally, group: Group, vote: VoteRef, place: usize)
     requires own { group.own < group.members }
     requires foreign { IsForeign group (vote_of_ref vote) }
@@ -249,7 +246,7 @@ fn put(tally: &mut Tally, group: Group, vote: VoteRef, place: usize)
     }
 }
 
-// Takes a process's READY for the value at a place if it is due.
+// Adds the READY of `process` for the value at `place` if it is `due`.
 fn put_ready_if(due: bool, tally: &mut Tally, process: u16, place: usize)
     requires process { process < length tally.old.readys }
     requires first { due ≡ true → slice_index_or tally.old.readys process None ≡ None }

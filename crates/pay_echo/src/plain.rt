@@ -4,27 +4,24 @@ ghost use Rattle.std.specs.Prelude.{is_some, is_none, true, false};
 ghost use Rattle.std.specs.List.{count_by};
 ghost use Rattle.std.specs.Option.{option_copied};
 ghost use Rattle.pay_echo.specs.Broadcast.{IsForeign, is_for};
-ghost use Rattle.pay_echo.specs.Votes.{vote_of_ref};
+ghost use Rattle.pay_echo.specs.Plain.{value_at, votes_at_places, is_at, AreDistinct, IsPlaceOf};
 ghost use Rattle.pay_echo.specs.Step.{vote_at, vote_before, echo_count, ready_count, moves_by};
 ghost use Rattle.pay_echo.specs.Step.{can_ready, can_deliver, put_echo, put_ready, put_if};
 ghost use Rattle.pay_echo.specs.Step.{with_moves, IsPlaced};
-ghost use Rattle.pay_echo.specs.Plain.{value_at, votes_at_places, is_at, AreDistinct, IsPlaceOf};
+ghost use Rattle.pay_echo.specs.Votes.{vote_of_ref};
 
-use crate::group::Group;
-use crate::instance::Instance;
-use crate::moves::Moves;
-use crate::vote::VoteRef;
+use crate::instance::{Group, Instance, Moves, VoteRef};
 use pay_frame::{Bytes, MOST_MEMBERS};
 use std::alloc::{AllocError, Global};
 use std::marker::Model;
 
-/// An instance as plain lists: each process's first ECHO and first READY, by its number. A value is
-/// kept once, whoever votes for it.
+/// An instance kept as plain lists: each process's first ECHO and first READY, by its number. A
+/// value is stored once, whoever votes for it.
 #[derive(Drop)]
 pub struct PlainInstance {
     group: Group,
     values: Vec<Bytes>,
-    // the places of the votes' values; one's own are what oneself echoed and readied
+    // the places of the votes' values; this process's own are what it echoed and readied
     echoes: Vec<Option<usize>>,
     readys: Vec<Option<usize>>,
     delivered: Option<usize>,
@@ -90,7 +87,7 @@ impl Instance for PlainInstance {
 }
 
 impl PlainInstance {
-    // Whether a vote of that process and kind came before.
+    // Returns whether a vote of that process and kind came before.
     fn is_repeated(&self, vote: VoteRef) -> bool
         requires { IsForeign self.now.group (vote_of_ref vote) }
         ensures voted { result ≡ is_some (vote_before self.now (vote_of_ref vote.entry)) }
@@ -103,7 +100,7 @@ impl PlainInstance {
         }
     }
 
-    // How many ECHOs there are for this vote's value, itself included.
+    // Returns the count of ECHOs for the value of `vote`, including this vote.
     fn echo_count(&self, vote: VoteRef) -> usize
         ensures count { result ≡ echo_count self.now (vote_of_ref vote.entry) }
         ensures few { result ≤ MOST_MEMBERS + 1 }
@@ -112,7 +109,7 @@ impl PlainInstance {
         if vote.is_ready() { before } else { before + 1 }
     }
 
-    // How many READYs there are for this vote's value, itself included.
+    // Returns the count of READYs for the value of `vote`, including this vote.
     fn ready_count(&self, vote: VoteRef) -> usize
         ensures count { result ≡ ready_count self.now (vote_of_ref vote.entry) }
         ensures few { result ≤ MOST_MEMBERS + 1 }
@@ -121,8 +118,8 @@ impl PlainInstance {
         if vote.is_ready() { before + 1 } else { before }
     }
 
-    // The count of ECHOs where it can make a READY due. Where one was sent, it can't, and no vote
-    // is looked at.
+    // Returns the count of ECHOs if it can lead to a READY. If a READY was sent it can't, and no
+    // vote is looked at.
     fn echoes_asked_for(&self, vote: VoteRef) -> usize
         ensures count { is_none self.now.readied ≡ true
             → result ≡ echo_count self.now (vote_of_ref vote.entry) }
@@ -135,7 +132,7 @@ impl PlainInstance {
         }
     }
 
-    // The count of READYs where it can make a READY or a delivery due.
+    // Returns the count of READYs if it can lead to a READY or a delivery.
     fn readys_asked_for(&self, vote: VoteRef) -> usize
         ensures ready { is_none self.now.readied ≡ true
             → result ≡ ready_count self.now (vote_of_ref vote.entry) }
@@ -150,7 +147,7 @@ impl PlainInstance {
         }
     }
 
-    // What this vote makes known where none came before it.
+    // Returns what `vote` makes known if no vote of its process and kind came before.
     #[tactic(auto, unfolding(crate::specs::Step::moves_by))]
     fn moves_by(&self, vote: VoteRef) -> Moves
         ensures { result ≡ moves_by self.now (vote_of_ref vote.entry) }
@@ -180,7 +177,7 @@ impl PlainInstance {
         self.delivered().is_none() && 2 * usize::from(self.group.faults) < readys
     }
 
-    // Writes a vote in its place, and what it is told to make known.
+    // Writes a vote in its place, and what the caller says that it makes known.
     fn write(&mut self, alloc: Global, vote: VoteRef, moves: Moves) -> Result<(), AllocError>
         requires foreign { IsForeign self.old.group (vote_of_ref vote) }
         ensures after { OnOk result
@@ -197,7 +194,7 @@ impl PlainInstance {
     }
 }
 
-// The value at a place.
+// Returns the value at `place`.
 fn value_at(values: &[Bytes], place: Option<usize>) -> Option<&[u8]>
     ensures { option_copied result ≡ value_at values.now place }
 {
@@ -207,7 +204,7 @@ fn value_at(values: &[Bytes], place: Option<usize>) -> Option<&[u8]>
     }
 }
 
-// The value that a process voted for.
+// Returns the value that `process` voted for.
 fn vote_at<'a>(values: &'a [Bytes], places: &[Option<usize>], process: u16) -> Option<&'a [u8]>
     requires { process < length places.now }
     ensures { option_copied result ≡ vote_at (votes_at_places values.now places.now) process }
@@ -215,7 +212,7 @@ fn vote_at<'a>(values: &'a [Bytes], places: &[Option<usize>], process: u16) -> O
     value_at(values, places[usize::from(process)])
 }
 
-// How many votes there are for a value. All of them stand at its one place, so that no value is
+// Returns the count of votes for `value`. All of them stand at its one place, so that no value is
 // looked at for each vote.
 fn count_for(values: &[Bytes], places: &[Option<usize>], value: &[u8]) -> usize
     requires { AreDistinct values.now }
@@ -228,7 +225,7 @@ fn count_for(values: &[Bytes], places: &[Option<usize>], value: &[u8]) -> usize
     }
 }
 
-// How many votes stand at a place.
+// Returns the count of votes at `place`.
 fn count_at(votes: &[Option<usize>], place: usize) -> usize
     ensures count { result ≡ count_by (is_at place) votes.now }
     ensures few { result ≤ length votes.now }
@@ -242,7 +239,7 @@ fn count_at(votes: &[Option<usize>], place: usize) -> usize
     count
 }
 
-// The place of a value, if it is there.
+// Returns the place of `value`, if it is there.
 fn place_of(values: &[Bytes], value: &[u8]) -> Option<usize>
     ensures { IsPlaceOf value.now values.now result }
 {
@@ -254,7 +251,7 @@ fn place_of(values: &[Bytes], value: &[u8]) -> Option<usize>
     None
 }
 
-// The place of a value, which is put at the end where it isn't there yet.
+// Returns the place of `value`, and appends it first if it isn't there yet.
 fn keep(values: &mut Vec<Bytes>, alloc: Global, value: &[u8]) -> Result<usize, AllocError>
     requires { AreDistinct values.old.items }
     ensures distinct { AreDistinct values.new.items }
@@ -270,7 +267,7 @@ fn keep(values: &mut Vec<Bytes>, alloc: Global, value: &[u8]) -> Result<usize, A
     Ok(values.len() - 1)
 }
 
-// Writes a vote's place.
+// Writes `place` as that of `vote`.
 fn put(
     echoes: &mut Vec<Option<usize>>,
     readys: &mut Vec<Option<usize>>,
@@ -293,7 +290,7 @@ fn put(
     }
 }
 
-// Writes a process's place if it is due.
+// Writes `place` as that of the vote of `process`, if it is `due`.
 fn put_if(due: bool, places: &mut Vec<Option<usize>>, process: u16, place: usize)
     requires { process < length places.old.items }
     ensures { places.new.items ≡ put_if due process place places.old.items }
@@ -303,7 +300,7 @@ fn put_if(due: bool, places: &mut Vec<Option<usize>>, process: u16, place: usize
     }
 }
 
-// Each process's vote before any came.
+// Returns the votes of all processes before any came.
 fn no_votes(alloc: Global, members: u16) -> Result<Vec<Option<usize>>, AllocError>
     ensures { IfOk result (λ votes. votes.items ≡ replicate members None) }
 {

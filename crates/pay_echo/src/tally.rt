@@ -1,23 +1,46 @@
+//! Votes counted by value: a candidate is a value with its votes, and a tally has all candidates.
+
 ghost use Rattle.std.specs.Prelude.{◌≡◌, ◌<◌, ◌≤◌, ◌+◌, ◌++◌, [], ℕ, List, Some, None, length};
 ghost use Rattle.std.specs.Prelude.{replicate, slice_get, slice_index_or, is_some, IfOk, OnErr};
 ghost use Rattle.std.specs.List.{count_by};
 ghost use Rattle.std.specs.Option.{option_copied};
-ghost use Rattle.pay_echo.specs.Plain.{value_at, is_at, AreDistinct, IsPlaceOf};
 ghost use Rattle.pay_echo.specs.Masks.{has, with_process, vote_places, with_place};
+ghost use Rattle.pay_echo.specs.Plain.{value_at, is_at, AreDistinct, IsPlaceOf};
 
-use crate::candidate::Candidate;
-use crate::vote_kind::VoteKind;
+use crate::instance::VoteKind;
 use pay_frame::Bytes;
 use std::alloc::{AllocError, Global};
 use std::marker::Model;
 
-/// The values that were voted for, each once, and as bits who voted for which. A process has one
-/// vote of each kind.
+/// A value, and as bits the processes that sent ECHO and those that sent READY for it.
+#[derive(Drop)]
+pub(crate) struct Candidate {
+    pub(crate) value: Bytes,
+    pub(crate) echoes: u128,
+    pub(crate) readys: u128,
+}
+
+impl Candidate {
+    ghost use Rattle.pay_echo.specs.Masks.{mask_of};
+
+    /// Returns the processes that sent a vote of this `kind` for the value.
+    pub(crate) fn mask(&self, kind: VoteKind) -> u128
+        ensures { result ≡ mask_of kind self.now }
+    {
+        match kind {
+            VoteKind::Echo => self.echoes,
+            VoteKind::Ready => self.readys,
+        }
+    }
+}
+
+/// The values that were voted for, each once, and as bits which processes voted for which value. A
+/// process has one vote of each kind.
 #[derive(Drop)]
 pub(crate) struct Tally {
     members: u16,
     candidates: Vec<Candidate>,
-    // all whose ECHO came, and all whose READY came
+    // all processes with an ECHO, and all with a READY
     echoed: u128,
     readied: u128,
 }
@@ -33,7 +56,8 @@ impl Model for Tally {
 }
 
 impl Tally {
-    /// No values and no votes, with room for one value: most often all vote for the same.
+    /// Creates a tally without values and votes, with room for one value, since most often all
+    /// processes vote for one value.
     pub(crate) fn new(alloc: Global, members: u16) -> Result<Tally, AllocError>
         requires { members ≤ 128 }
         ensures values { IfOk result (λ made. made.values ≡ []) }
@@ -48,7 +72,7 @@ impl Tally {
         })
     }
 
-    /// The value at a place.
+    /// Returns the value at `place`.
     pub(crate) fn value(&self, place: Option<usize>) -> Option<&[u8]>
         ensures { option_copied result ≡ value_at self.now.values place }
     {
@@ -58,7 +82,7 @@ impl Tally {
         }
     }
 
-    /// The place of a value, if it is there.
+    /// Returns the place of `value`, if it is there.
     pub(crate) fn place_of(&self, value: &[u8]) -> Option<usize>
         ensures { IsPlaceOf value.now self.now.values result }
     {
@@ -70,7 +94,7 @@ impl Tally {
         None
     }
 
-    /// The place of the value that a process voted for.
+    /// Returns the place of the value that `process` voted for.
     pub(crate) fn place(&self, kind: VoteKind, process: u16) -> Option<usize>
         requires { process < length (vote_places kind self.now) }
         ensures { result ≡ slice_index_or (vote_places kind self.now) process None }
@@ -83,7 +107,7 @@ impl Tally {
         None
     }
 
-    /// Whether a process voted.
+    /// Returns whether `process` voted.
     pub(crate) fn has_voted(&self, kind: VoteKind, process: u16) -> bool
         requires { process < length (vote_places kind self.now) }
         ensures { result ≡ is_some (slice_index_or (vote_places kind self.now) process None) }
@@ -94,7 +118,7 @@ impl Tally {
         }
     }
 
-    /// How many voted for the value at a place.
+    /// Returns how many processes voted for the value at `place`.
     pub(crate) fn count(&self, kind: VoteKind, place: usize) -> u32
         requires { place < length self.now.values }
         ensures count { result ≡ count_by (is_at place) (vote_places kind self.now) }
@@ -103,7 +127,7 @@ impl Tally {
         self.candidates[place].mask(kind).count_ones()
     }
 
-    /// The place of a value, which is put at the end where it isn't there yet.
+    /// Returns the place of `value`, and appends it first if it isn't there yet.
     pub(crate) fn keep(&mut self, alloc: Global, value: &[u8]) -> Result<usize, AllocError>
         ensures distinct { AreDistinct self.new.values }
         ensures place { IfOk result (λ place. slice_get self.new.values place ≡ Some value.now) }
@@ -126,7 +150,7 @@ impl Tally {
         Ok(place)
     }
 
-    /// Takes the vote of a process that didn't vote, for the value at a place.
+    /// Adds the vote of a `process` that hasn't voted, for the value at `place`.
     pub(crate) fn vote(&mut self, kind: VoteKind, process: u16, place: usize)
         requires process { process < length (vote_places kind self.old) }
         requires first { slice_index_or (vote_places kind self.old) process None ≡ None }
@@ -147,7 +171,7 @@ impl Tally {
     }
 }
 
-// Whether a process is in a mask.
+// Returns whether `process` is in `mask`.
 fn is_in(mask: u128, process: u16) -> bool
     requires { process < 128 }
     ensures { result ≡ has mask process }
@@ -155,7 +179,7 @@ fn is_in(mask: u128, process: u16) -> bool
     (mask >> process) & 1 == 1
 }
 
-// A mask with one process more.
+// Returns `mask` with one more process.
 fn with(mask: u128, process: u16) -> u128
     requires { process < 128 }
     ensures { result ≡ with_process mask process }

@@ -5,9 +5,9 @@ use Rattle.std.proofs.lemmas.Bool.{and_parts, and_from, eqb-true, eq-eqb, ltb-tr
 use Rattle.std.proofs.lemmas.List.{length-append, append-nil, take_at, drop_at}
 use Rattle.std.proofs.lemmas.Option.{option_and_then_some, cond_some}
 use Rattle.std.proofs.lemmas.Slice.Eq.{bytes_eq-Decides}
-use Rattle.pay_frame.specs.declared.fault.FrameFault.{FrameFault}
-use Rattle.pay_frame.specs.declared.kind.Kind.{Kind}
-use Rattle.pay_frame.specs.declared.kind.Kind.TheVariants.{Send, Echo, Ready, Want}
+use Rattle.pay_frame.specs.declared.reading.FrameFault.{FrameFault}
+use Rattle.pay_frame.specs.declared.body.Kind.{Kind}
+use Rattle.pay_frame.specs.declared.body.Kind.TheVariants.{Send, Echo, Ready, Want}
 use Rattle.pay_frame.specs.Frame.{BodyFields, FrameFields, code_of, head_bytes, frame_bytes, IsBare, IsBody, IsFrame}
 use Rattle.pay_frame.specs.OneFrame.{IsOneFrame, IsOneReading, kind_of, fields_at, is_bare, is_body, is_frame, if_spelled, one_frame}
 use Rattle.pay_frame.proofs.OneReading.{Spelled, spelled_in, same_body, same_frame}

@@ -1,8 +1,8 @@
 -- Bytes alone have the first six faults; and no bytes at all are a proper beginning of a frame.
 use Rattle.std.proofs.Common.{◌≡◌, ℕ, ◌≤◌, Bool, true, false, List, [], subst, arith, Option, Some, None, cond}
 use Rattle.std.specs.Prelude.{slice_index, nat_lt, ◌==◌}
-use Rattle.pay_frame.specs.declared.fault.FrameFault.{FrameFault}
-use Rattle.pay_frame.specs.declared.fault.FrameFault.TheVariants.{BadLength, BadVersion, BadKind, BadValueLength, BadSeq, BadWant}
+use Rattle.pay_frame.specs.declared.reading.FrameFault.{FrameFault}
+use Rattle.pay_frame.specs.declared.reading.FrameFault.TheVariants.{BadLength, BadVersion, BadKind, BadValueLength, BadSeq, BadWant}
 use Rattle.pay_frame.specs.Fault.{fault_number}
 use Rattle.pay_frame.specs.Reading.{IsProperBeginning, IsFault, fault_at}
 use Rattle.pay_frame.proofs.Lists.{IsBytes-none}

@@ -1,7 +1,7 @@
 -- The end of a stream of which some bytes are held.
 use Rattle.std.proofs.Common.{◌≡◌, ℕ, ◌<◌, List, length, refl, arith, inr, Option, Some, None, Ok, Err, eqb, false}
 use Rattle.std.proofs.lemmas.Bool.Decides.{nat_tests}
-use Rattle.pay_frame.specs.declared.fault.FrameFault.TheVariants.{Truncated}
+use Rattle.pay_frame.specs.declared.reading.FrameFault.TheVariants.{Truncated}
 use Rattle.pay_frame.specs.declared.frame_ref.FrameRef.{FrameRef}
 use Rattle.pay_frame.specs.Lent.{fields_of, sized_of}
 use Rattle.pay_frame.specs.Reading.{IsReading}

@@ -14,3 +14,7 @@ pub mod Fronts
 pub mod Early
 pub mod WholeFrame
 pub mod Computed
+pub mod Slides
+pub mod Written
+pub mod Handlings
+pub mod Exactly

@@ -5,8 +5,8 @@ use Rattle.std.specs.List.{range_with_len}
 use Rattle.std.specs.Int.{w16, w32, w64, to_be_bytes, from_be_bytes}
 use Rattle.std.proofs.lemmas.Bool.{eqb-true, leb-true, and_parts, eq-eqb}
 use Rattle.std.proofs.lemmas.Nat.{be_bytes_2, be_bytes_4, be_bytes_8}
-use Rattle.pay_frame.specs.declared.kind.Kind.{Kind}
-use Rattle.pay_frame.specs.declared.kind.Kind.TheVariants.{Want}
+use Rattle.pay_frame.specs.declared.body.Kind.{Kind}
+use Rattle.pay_frame.specs.declared.body.Kind.TheVariants.{Want}
 use Rattle.pay_frame.specs.Frame.{BodyFields, FrameFields, code_of, head_bytes, IsBody}
 use Rattle.pay_frame.specs.Places.{length_field, PassBelow, two_at, four_at, eight_at}
 use Rattle.pay_frame.specs.Stream.{IsBytes}

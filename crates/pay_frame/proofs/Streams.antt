@@ -4,8 +4,8 @@ use Rattle.std.specs.List.{All, flat_map}
 use Rattle.std.proofs.lemmas.List.{append-nil, length-append, drop_at, get_or-drop}
 use Rattle.std.proofs.lemmas.List.Elements.{All-nil, All-cons, All-head, All-tail, All-append}
 use Rattle.std.proofs.lemmas.Grind.{flat_map-append}
-use Rattle.pay_frame.specs.declared.fault.FrameFault.{FrameFault}
-use Rattle.pay_frame.specs.declared.fault.FrameFault.TheVariants.{Truncated}
+use Rattle.pay_frame.specs.declared.reading.FrameFault.{FrameFault}
+use Rattle.pay_frame.specs.declared.reading.FrameFault.TheVariants.{Truncated}
 use Rattle.pay_frame.specs.Frame.{FrameFields, frame_bytes, IsFrame}
 use Rattle.pay_frame.specs.Reading.{IsReading, IsProperBeginning, IsFault}
 use Rattle.pay_frame.specs.Cutting.{Held, Feeds, HandsOut, EndsWith, IsDrained, frame_in}

@@ -1,30 +1,31 @@
--- A stream is cut into frames, in whatever pieces it comes. What a cutter holds is a list of bytes,
--- and its calls are said by that list.
+-- A stream is cut into frames, whatever pieces it comes in. A cutter holds a list of bytes, and its
+-- calls are defined on that list.
 use Rattle.std.specs.Prelude.{◌≡◌, ℕ, ◌-◌, ◌<◌, ◌≤◌, ◌⊎◌, List, [], ◌∷◌, ◌++◌, length, min, take}
 use Rattle.std.specs.Prelude.{drop, is_some, if◌then◌else◌, Option, Some, None, Result, Ok, Err}
 use Rattle.pay_frame.specs.declared.limits.TheConstants.{CUTTER_ROOM}
-use Rattle.pay_frame.specs.declared.fault.FrameFault.{FrameFault}
-use Rattle.pay_frame.specs.declared.fault.FrameFault.TheVariants.{Truncated}
+use Rattle.pay_frame.specs.declared.reading.FrameFault.{FrameFault}
+use Rattle.pay_frame.specs.declared.reading.FrameFault.TheVariants.{Truncated}
 use Rattle.pay_frame.specs.Frame.{FrameFields, frame_bytes, IsFrame}
 use Rattle.pay_frame.specs.Reading.{HasFrame, IsProperBeginning, IsFault}
 use Rattle.pay_frame.specs.Stream.{IsFramesThen}
 
--- the bytes of the frame that was handed out last, those not yet handed out, and the fault met, if
--- any
+-- the bytes of the frame that was handed out last, those not yet handed out, and the fault found,
+-- if any
 pub record Held : Type 0 where
   pub given : List ℕ
   pub bytes : List ℕ
   pub met : Option FrameFault
 
--- A piece is offered: as much of it as fits is held after what is held, and nothing after a fault.
+-- A piece is offered: as much of it as fits is appended to the bytes held. Nothing is appended
+-- after a fault.
 pub record Feeds (old new : Held) (piece : List ℕ) (taken : ℕ) : Type 0 where
   pub count :
       taken ≡ (if is_some old.met then 0 else min (length piece) (CUTTER_ROOM - length old.bytes))
   pub appended : new.bytes ≡ old.bytes ++ take taken piece
   pub same_met : new.met ≡ old.met
 
--- The next frame is asked for: what reading the bytes held answers, and just the frame is taken
--- away. A fault is for good.
+-- The next frame is requested. The answer is the reading of the bytes held, and only the frame is
+-- removed. A fault is permanent.
 abbrev pub HandsOut : Held → Result (Option FrameFields) FrameFault → Held → Type 0
 HandsOut old (Ok (Some f)) new =
     (old.met ≡ None) × IsFrame f × (old.bytes ≡ frame_bytes f ++ new.bytes) × (new.met ≡ None)
@@ -34,12 +35,13 @@ HandsOut old (Err fault) new =
     ((old.met ≡ Some fault) ⊎ ((old.met ≡ None) × IsFault old.bytes fault))
     × (new.bytes ≡ old.bytes) × (new.met ≡ Some fault)
 
--- no whole frame is in front of these bytes: less than one is, or a fault
+-- no complete frame is in front of these bytes: they begin with a proper prefix of a frame, or with
+-- a fault
 abbrev pub IsNoFrame : List ℕ → Type 0
 IsNoFrame bytes = IsProperBeginning bytes ⊎ ((fault : FrameFault) × IsFault bytes fault)
 
--- So many bytes in front are so many whole frames, and fewer than the most only where no further
--- one is whole.
+-- `size` bytes in front are `count` complete frames. They are fewer than `most` only if no further
+-- frame is complete.
 pub record IsFront (bytes : List ℕ) (most size count : ℕ) : Type 0 where
   pub frames : List FrameFields
   pub fits : size ≤ length bytes
@@ -49,8 +51,8 @@ pub record IsFront (bytes : List ℕ) (most size count : ℕ) : Type 0 where
   pub all : count < most → IsNoFrame (drop size bytes)
   pub none : count ≡ 0 → (size ≡ 0) × IsProperBeginning bytes
 
--- Whole frames are asked for: so many of those in front, and fewer than the most only where no
--- further one is whole. They are lent, and just they are taken away.
+-- `count` complete frames are removed from the front, and lent. They are fewer than `most` only if
+-- no further frame is complete.
 pub record PassesFrames (old new : Held) (most count : ℕ) : Type 0 where
   pub frames : List FrameFields
   pub cut : IsFramesThen old.bytes frames new.bytes

@@ -1,12 +1,10 @@
 -- Numbers and names of faults, as programs print them.
 use Rattle.std.specs.Prelude.{ℕ, List, ◌++◌, codes, decimal}
-use Rattle.pay_frame.specs.declared.fault.FrameFault.{FrameFault}
-use Rattle.pay_frame.specs.declared.fault.FrameFault.TheVariants.{BadLength, BadVersion, BadKind}
-use Rattle.pay_frame.specs.declared.fault.FrameFault.TheVariants.{BadValueLength, BadSeq, BadWant}
-use Rattle.pay_frame.specs.declared.fault.FrameFault.TheVariants.{Truncated, Trailing}
+use Rattle.pay_frame.specs.declared.reading.FrameFault.{FrameFault}
+use Rattle.pay_frame.specs.declared.reading.FrameFault.TheVariants.{BadLength, BadVersion, BadKind}
+use Rattle.pay_frame.specs.declared.reading.FrameFault.TheVariants.{BadValueLength, BadSeq, BadWant}
+use Rattle.pay_frame.specs.declared.reading.FrameFault.TheVariants.{Truncated, Trailing}
 
--- change: a fault of a frame, as `BadKind`: `specs/Reading.antt`; models `examples/frames.py`,
---   `tests/models/damage.py`
 abbrev pub fault_entry : FrameFault → ℕ × List ℕ
 fault_entry BadLength = (1, codes "BadLength")
 fault_entry BadVersion = (2, codes "BadVersion")

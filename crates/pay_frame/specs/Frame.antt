@@ -1,20 +1,20 @@
 -- A frame of the wire: what it says, and its one spelling as bytes. The format, version 1, is this
--- project's own; the table of its fields stands in docs/DEFINITIONS.md.
+-- project's own; the table of its fields stands in docs/formats.md.
 use Rattle.std.specs.Prelude.{◌≡◌, ℕ, ◌+◌, ◌^◌, ◌<◌, ◌≤◌, List, [], ◌∷◌, ◌++◌, length}
 use Rattle.std.specs.Int.{w16, w32, w64, to_be_bytes}
 use Rattle.pay_frame.specs.declared.limits.TheConstants.{LEAST_LENGTH, GREATEST_VALUE, TAG_LEN}
 use Rattle.pay_frame.specs.declared.limits.TheConstants.{SEQS}
-use Rattle.pay_frame.specs.declared.kind.Kind.{Kind}
-use Rattle.pay_frame.specs.declared.kind.Kind.TheVariants.{Send, Echo, Ready, Want}
+use Rattle.pay_frame.specs.declared.body.Kind.{Kind}
+use Rattle.pay_frame.specs.declared.body.Kind.TheVariants.{Send, Echo, Ready, Want}
 
--- what a frame says, whoever sends it to whom
+-- the contents of a frame, whoever sends it to whom
 pub record BodyFields : Type 0 where
   pub kind : Kind
   pub owner : ℕ
   pub seq : ℕ
   pub value : List ℕ
 
--- all that a frame spells
+-- all that a frame encodes
 pub record FrameFields : Type 0 where
   pub from : ℕ
   pub to : ℕ
@@ -28,7 +28,7 @@ code_of Echo = 2
 code_of Ready = 3
 code_of Want = 4
 
--- a body and a frame, by their parts
+-- a body and a frame, made of their parts
 abbrev pub body_of_parts : Kind → ℕ → ℕ → List ℕ → BodyFields
 body_of_parts kind owner seq value = record { kind = kind; owner = owner; seq = seq; value = value }
 
@@ -51,20 +51,19 @@ head_of f = head_bytes f.from f.to f.number f.body
 abbrev pub frame_bytes : FrameFields → List ℕ
 frame_bytes f = head_of f ++ f.body.value ++ f.tag
 
--- a WANT says nothing but its kind
+-- a WANT contains nothing except its kind
 abbrev pub IsBare : BodyFields → Type 0
 IsBare body = (body.owner ≡ 0) × (body.seq ≡ 0) × (body.value ≡ [])
 
--- the limits of what a frame may say
+-- the limits of a frame's contents
 pub record IsBody (body : BodyFields) : Type 0 where
   pub owner : body.owner < 2 ^ 16
   pub seq : body.seq < SEQS
   pub value : length body.value ≤ GREATEST_VALUE
   pub want : body.kind ≡ Want → IsBare body
 
--- the limits of a frame. Its value and tag are lists of numbers here: where they stand in a slice
--- each is a byte.
--- term: frame: one message from one member to one other, with a tag
+-- The limits of a frame. Its value and tag are lists of numbers here. In a slice each number is a
+-- byte.
 pub record IsFrame (f : FrameFields) : Type 0 where
   pub from : f.from < 2 ^ 16
   pub to : f.to < 2 ^ 16

@@ -1,6 +1,6 @@
 -- What a frame in a buffer lends.
 use Rattle.std.specs.Prelude.{ℕ, Option, Some, None, Result, Ok, Err}
-use Rattle.pay_frame.specs.declared.fault.FrameFault.{FrameFault}
+use Rattle.pay_frame.specs.declared.reading.FrameFault.{FrameFault}
 use Rattle.pay_frame.specs.declared.frame_ref.FrameRef.{FrameRef}
 use Rattle.pay_frame.specs.Frame.{FrameFields}
 

@@ -1,13 +1,13 @@
--- Bytes that are one frame and nothing else: as a question about all frames, and computed. That
--- both are the same is the law `one_frame_is`.
+-- Bytes that are one frame and nothing else, defined by all frames and also computed. The law
+-- `one_frame_is` says that both are the same.
 use Rattle.std.specs.Prelude.{◌≡◌, ℕ, ◌-◌, ◌^◌, ◌<◌, Bool, not, ◌&&◌, ◌||◌, ◌==◌, nat_lt, nat_le}
 use Rattle.std.specs.Prelude.{if◌then◌else◌, List, length, drop, slice_index, slice_range, Option}
 use Rattle.std.specs.Prelude.{Some, None, option_and_then, Result, Ok, Err, bytes_eq}
 use Rattle.pay_frame.specs.declared.limits.TheConstants.{HEAD_LEN, TAG_LEN, GREATEST_VALUE, SEQS}
-use Rattle.pay_frame.specs.declared.fault.FrameFault.{FrameFault}
-use Rattle.pay_frame.specs.declared.fault.FrameFault.TheVariants.{Truncated, Trailing}
-use Rattle.pay_frame.specs.declared.kind.Kind.{Kind}
-use Rattle.pay_frame.specs.declared.kind.Kind.TheVariants.{Send, Echo, Ready, Want}
+use Rattle.pay_frame.specs.declared.reading.FrameFault.{FrameFault}
+use Rattle.pay_frame.specs.declared.reading.FrameFault.TheVariants.{Truncated, Trailing}
+use Rattle.pay_frame.specs.declared.body.Kind.{Kind}
+use Rattle.pay_frame.specs.declared.body.Kind.TheVariants.{Send, Echo, Ready, Want}
 use Rattle.pay_frame.specs.Frame.{BodyFields, FrameFields, body_of_parts, code_of, frame_bytes}
 use Rattle.pay_frame.specs.Frame.{IsFrame}
 use Rattle.pay_frame.specs.Places.{two_at, four_at, eight_at}
@@ -24,8 +24,8 @@ pub record IsFollowed (bytes : List ℕ) : Type 0 where
   pub has : HasFrame bytes frame
   pub more : 0 < length has.rest
 
--- what reading the bytes as one frame answers: the frame, that they end inside it, that they go on
--- after it, or the fault that they have
+-- the reading of the bytes as one frame: the frame, or that they end inside it, or that more bytes
+-- follow it, or the fault that they have
 abbrev pub IsOneReading : List ℕ → Result FrameFields FrameFault → Type 0
 IsOneReading bytes (Ok f) = IsOneFrame bytes f
 IsOneReading bytes (Err Truncated) = IsProperBeginning bytes
@@ -72,8 +72,8 @@ is_frame f =
 abbrev pub if_spelled : List ℕ → FrameFields → Option FrameFields
 if_spelled bytes f = if is_frame f && bytes_eq (frame_bytes f) bytes then Some f else None
 
--- the frame that the bytes are, if they are one: what stands at the places of its fields, where
--- they are within the limits and the bytes are their spelling
+-- the frame that the bytes are, if they are one frame: the fields at their places, if these are
+-- within the limits and the bytes are their encoding
 unfoldable pub one_frame : List ℕ → Option FrameFields
 one_frame bytes =
     option_and_then (λ kind. if_spelled bytes (fields_at bytes kind))

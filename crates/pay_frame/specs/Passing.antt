@@ -1,4 +1,5 @@
--- What a cutter's private steps do: whole frames in front are passed, or the one in front.
+-- What a cutter's private steps do: they move past the complete frames in front, or past one of
+-- them.
 use Rattle.std.specs.Prelude.{◌≡◌, ◌++◌, Bool, true, false, None}
 use Rattle.pay_frame.specs.Places.{IsWhole}
 use Rattle.pay_frame.specs.Reading.{IsProperBeginning}

@@ -1,5 +1,5 @@
 -- Which byte may stand at a place of a frame's head, after the bytes before it: the reader's own
--- test. That it is the right one is proved, against frames as Reading.antt asks about them.
+-- test. A proof shows that it agrees with the definition in Reading.antt.
 use Rattle.std.specs.Prelude.{◌≡◌, ℕ, ◌+◌, ◌-◌, ◌*◌, ◌/◌, ◌%◌, ◌<◌, ◌≤◌, Bool, true, false, not}
 use Rattle.std.specs.Prelude.{◌&&◌, ◌||◌, ◌==◌, nat_lt, nat_le, if◌then◌else◌, List, [], ◌∷◌}
 use Rattle.std.specs.Prelude.{length, take, slice_index}
@@ -40,7 +40,7 @@ may_stand bytes place =
 abbrev pub PassBelow : List ℕ → ℕ → Type 0
 PassBelow bytes place = (k : ℕ) → k < place → may_stand bytes k ≡ true
 
--- the first place of the head, if any, whose byte doesn't pass
+-- the first place of the head, if any, with a byte that doesn't pass
 abbrev pub IsFirstWrong : List ℕ → ℕ → Type 0
 IsFirstWrong bytes place =
     (place < 24) × (place < length bytes) × PassBelow bytes place × (may_stand bytes place ≡ false)
@@ -68,11 +68,11 @@ are_lengths h =
     let length = length_field h in
     is_length length && (two_at h 22 == length - LEAST_LENGTH)
 
--- owner 0, sequence number 0 and no value, where the sequence number is below 65,536
+-- owner 0, sequence number 0 and no value, if the sequence number is below 65,536
 abbrev pub is_bare_head : List ℕ → Bool
 is_bare_head h = (two_at h 16 == 0) && (two_at h 20 == 0) && (two_at h 22 == 0)
 
--- this holds exactly where the byte at each place passes
+-- this holds exactly if the byte at each place passes
 abbrev pub is_head : List ℕ → Bool
 is_head h =
     are_lengths h && (slice_index h 2 == 1) && is_code (slice_index h 3)
@@ -83,7 +83,7 @@ pub record IsWhole (bytes : List ℕ) : Type 0 where
   pub head : PassBelow bytes 24
   pub length : length bytes ≡ 2 + length_field bytes
 
--- so many bytes in front are whole
+-- `size` bytes in front are a complete frame
 pub record IsSizeOf (bytes : List ℕ) (size : ℕ) : Type 0 where
   pub within : size ≤ length bytes
   pub whole : IsWhole (take size bytes)

@@ -1,10 +1,10 @@
--- How bytes read: a frame in front, a proper beginning of a frame, or a fault. Each is a question
--- about all frames, and none about how a reader goes over the bytes.
+-- How bytes read: as a frame in front, as a proper prefix of a frame, or as a fault. Each is
+-- defined by all frames, and not by how a reader goes over the bytes.
 use Rattle.std.specs.Prelude.{◌≡◌, ℕ, ◌+◌, ◌<◌, ◌≤◌, Bool, ◌==◌, nat_lt, if◌then◌else◌, List, ◌++◌}
 use Rattle.std.specs.Prelude.{length, take, slice_index, Option, Some, None, Result, Ok, Err}
-use Rattle.pay_frame.specs.declared.fault.FrameFault.{FrameFault}
-use Rattle.pay_frame.specs.declared.fault.FrameFault.TheVariants.{BadLength, BadVersion, BadKind}
-use Rattle.pay_frame.specs.declared.fault.FrameFault.TheVariants.{BadValueLength, BadSeq, BadWant}
+use Rattle.pay_frame.specs.declared.reading.FrameFault.{FrameFault}
+use Rattle.pay_frame.specs.declared.reading.FrameFault.TheVariants.{BadLength, BadVersion, BadKind}
+use Rattle.pay_frame.specs.declared.reading.FrameFault.TheVariants.{BadValueLength, BadSeq, BadWant}
 use Rattle.pay_frame.specs.Frame.{FrameFields, frame_bytes, IsFrame}
 
 -- the bytes are a frame, followed by more or by nothing
@@ -20,7 +20,7 @@ pub record StartsFrame (bytes : List ℕ) : Type 0 where
   pub rest : List ℕ
   pub spelled : frame_bytes frame ≡ bytes ++ rest
 
--- some frame starts with these bytes and goes on after them
+-- some frame starts with these bytes and continues after them
 pub record IsProperBeginning (bytes : List ℕ) : Type 0 where
   pub starts : StartsFrame bytes
   pub more : 0 < length starts.rest
@@ -38,8 +38,8 @@ fault_at bytes place =
     else if nat_lt place 24 then Some BadValueLength
     else None
 
--- Bytes that neither begin with a frame nor begin one are at fault. Of the counts whose first bytes
--- begin no frame the least is place + 1, and the byte at that place names the fault.
+-- Bytes are at fault if they neither begin with a frame nor are a prefix of one. `place` is the
+-- first place up to which no frame starts with the bytes, and the byte there names the fault.
 pub record IsFault (bytes : List ℕ) (fault : FrameFault) : Type 0 where
   pub no_frame : (f : FrameFields) → HasFrame bytes f → ⊥
   pub place : ℕ
@@ -48,7 +48,7 @@ pub record IsFault (bytes : List ℕ) (fault : FrameFault) : Type 0 where
   pub wrong : StartsFrame (take (place + 1) bytes) → ⊥
   pub named : fault_at bytes place ≡ Some fault
 
--- what reading the bytes answers: the frame in front and its size, nothing yet, or the fault
+-- the reading of the bytes: the frame in front and its size, nothing yet, or the fault
 abbrev pub IsReading : List ℕ → Result (Option (FrameFields × ℕ)) FrameFault → Type 0
 IsReading bytes (Ok (Some (f, size))) = HasFrame bytes f × (size ≡ length (frame_bytes f))
 IsReading bytes (Ok None) = IsProperBeginning bytes

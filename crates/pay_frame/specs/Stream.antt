@@ -1,10 +1,10 @@
--- A whole stream of bytes: frames one after the other, and how it ends. Nothing here speaks of the
--- pieces in which it comes, or of how far a reader is.
+-- A whole stream of bytes: frames one after the other, and how it ends. It doesn't depend on the
+-- pieces that it comes in, or on how far a reader is.
 use Rattle.std.specs.Prelude.{◌≡◌, ℕ, ◌<◌, List, [], ◌++◌, length, slice_index, Option, Some, None}
 use Rattle.std.specs.Prelude.{Result, Ok, Err}
 use Rattle.std.specs.List.{All, flat_map}
-use Rattle.pay_frame.specs.declared.fault.FrameFault.{FrameFault}
-use Rattle.pay_frame.specs.declared.fault.FrameFault.TheVariants.{Truncated}
+use Rattle.pay_frame.specs.declared.reading.FrameFault.{FrameFault}
+use Rattle.pay_frame.specs.declared.reading.FrameFault.TheVariants.{Truncated}
 use Rattle.pay_frame.specs.Frame.{FrameFields, frame_bytes, IsFrame}
 use Rattle.pay_frame.specs.Reading.{IsProperBeginning, IsFault}
 
@@ -24,33 +24,33 @@ pub data IsStreamEnd (rest : List ℕ) : Option FrameFault → Type 0 where
   CutOff : 0 < length rest → IsProperBeginning rest → IsStreamEnd rest (Some Truncated)
   Faulty : {fault : FrameFault} → IsFault rest fault → IsStreamEnd rest (Some fault)
 
--- the stream is these frames, and ends so
+-- the stream is these frames, and ends with this fault or none
 pub record IsStream (bytes : List ℕ) (frames : List FrameFields) (ending : Option FrameFault)
     : Type 0 where
   pub rest : List ℕ
   pub cut : IsFramesThen bytes frames rest
   pub ends : IsStreamEnd rest ending
 
--- some frames are it, and it ends somehow
+-- a stream has some frames and some end
 pub record HasStream (bytes : List ℕ) : Type 0 where
   pub frames : List FrameFields
   pub ending : Option FrameFault
   pub is : IsStream bytes frames ending
 
--- After its first frames comes the rest of a stream: the frames that follow, and the same end.
+-- The rest of a stream comes after its first frames: the frames that follow, and the same end.
 pub record GoesOn (rest : List ℕ) (first all : List FrameFields) (ending : Option FrameFault)
     : Type 0 where
   pub more : List FrameFields
   pub parts : all ≡ first ++ more
   pub is : IsStream rest more ending
 
--- the end that a cutter's answer at the end of the input tells
+-- the stream's end that a cutter's answer at the input's end means
 abbrev pub stream_end : Result Unit FrameFault → Option FrameFault
 stream_end (Ok _) = None
 stream_end (Err fault) = Some fault
 
--- ---- the laws that engines use, by name: `read` is what was read so far, `first` the frames that
--- were handed out, `held` what is left of it, and `more` what wasn't read yet
+-- ---- the laws that loops use, by name: `read` is what was read so far, `first` the frames handed
+-- out, `held` the bytes left, `more` the bytes not read yet
 
 abbrev pub EveryStream : Type 0
 EveryStream = (bytes : List ℕ) → IsBytes bytes → HasStream bytes

@@ -1,12 +1,97 @@
-ghost use Rattle.std.specs.Prelude.{◌≡◌, IfOk};
+//! What a frame says: its kind, owner, seq and value.
+
+ghost use Rattle.std.specs.Prelude.{◌≡◌, ◌↔◌, [], length, IfOk, IsTrue};
 ghost use Rattle.pay_frame.specs.Frame.{IsBody, body_of_parts};
 
-use crate::bytes::Bytes;
-use crate::kind::Kind;
+use smallvec::SmallVec;
 use std::alloc::{AllocError, Global};
 use std::marker::Model;
+use std::sync::Arc;
 
-// term: body: a frame's kind, owner, seq and value
+/// What a frame is for.
+#[derive(Clone, Copy, Debug, PartialEq, Eq)]
+pub enum Kind {
+    /// The owner broadcasts a value.
+    Send = 1,
+    /// A member echoes the value that the owner sent.
+    Echo = 2,
+    /// A member is ready to deliver the value.
+    Ready = 3,
+    /// The receiver of a stream requests the frames from a number on.
+    Want = 4,
+}
+
+impl Kind {
+    ghost use Rattle.pay_frame.specs.Frame.{code_of};
+
+    /// Returns the byte that stands for this kind in a frame.
+    pub fn code(self) -> u8
+        ensures value { result ≡ code_of self }
+    {
+        self as u8
+    }
+}
+
+/// A list of bytes. Up to 16 bytes, such as a value of one payment, are stored without an
+/// allocation. Contracts see the list of numbers.
+#[derive(Debug, Drop)]
+pub struct Bytes {
+    bytes: SmallVec<u8, 16>,
+}
+
+impl Model for Bytes {
+    ghost use Rattle.std.specs.Prelude.{ℕ, List};
+
+    ghost Value = { List ℕ };
+
+    ghost view = { λ b. b.bytes.items };
+}
+
+impl Bytes {
+    /// Takes over the vector `bytes` without copying it.
+    pub fn new(bytes: Vec<u8>) -> Bytes
+        ensures value { result ≡ bytes.items }
+    {
+        Bytes {
+            bytes: SmallVec::from_vec(bytes),
+        }
+    }
+
+    /// Returns a copy of the slice `bytes`.
+    pub fn from_slice(alloc: Global, bytes: &[u8]) -> Result<Bytes, AllocError>
+        ensures value { IfOk result (λ copy. copy ≡ bytes.now) }
+    {
+        Ok(Bytes {
+            bytes: SmallVec::from_slice(alloc, bytes)?,
+        })
+    }
+
+    pub fn as_slice(&self) -> &[u8]
+        ensures value { result.now ≡ self.now }
+    {
+        self.bytes.as_slice()
+    }
+
+    pub fn len(&self) -> usize
+        ensures value { result ≡ length self.now }
+    {
+        self.bytes.len()
+    }
+
+    pub fn is_empty(&self) -> bool
+        ensures value { IsTrue result ↔ (self.now ≡ []) }
+    {
+        self.bytes.is_empty()
+    }
+
+    /// Returns a clone of the bytes.
+    pub fn copy(&self, alloc: Global) -> Result<Bytes, AllocError>
+        ensures value { IfOk result (λ copy. copy ≡ self.now) }
+    {
+        Bytes::from_slice(alloc, self.as_slice())
+    }
+}
+
 /// A frame's message without its addresses: its kind, the broadcast that it belongs to (owner and
 /// sequence number) and a value.
 ///
@@ -71,7 +156,7 @@ impl Body {
         self.value.as_slice()
     }
 
-    /// A clone of the body.
+    /// Returns a clone of the body.
     pub fn copy(&self, alloc: Global) -> Result<Body, AllocError>
         ensures value { IfOk result (λ copy. copy ≡ self.now) }
     {
@@ -82,5 +167,44 @@ impl Body {
             seq: self.seq,
             value,
         })
+    }
+}
+
+/// A body that its copies share. Contracts see it as the body.
+#[derive(Drop)]
+pub struct SharedBody {
+    body: Arc<Body, Global>,
+}
+
+impl Model for SharedBody {
+    ghost use Rattle.pay_frame.specs.Frame.{BodyFields};
+
+    ghost Value = { BodyFields };
+
+    ghost view = { λ s. s.body.value };
+}
+
+impl SharedBody {
+    /// Shares `body`, which has no copy yet.
+    pub fn new(alloc: Global, body: Body) -> Result<SharedBody, AllocError>
+        ensures { IfOk result (λ shared. shared ≡ body) }
+    {
+        let body = Arc::new(alloc, body)?;
+        Ok(SharedBody { body })
+    }
+
+    /// Returns the body.
+    pub fn body(&self) -> &Body
+        ensures { result.now ≡ self.now }
+    {
+        &self.body
+    }
+
+    /// Returns another handle to this body.
+    pub fn copy(&self) -> Result<SharedBody, AllocError>
+        ensures { IfOk result (λ copy. copy ≡ self.now) }
+    {
+        let body = Arc::try_clone(&self.body)?;
+        Ok(SharedBody { body })
     }
 }

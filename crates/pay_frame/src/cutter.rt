@@ -1,12 +1,10 @@
-use crate::fault::FrameFault;
 use crate::frame_ref::FrameRef;
 use crate::limits::CUTTER_ROOM;
-use crate::reading::{frame_of, frames_in_front, read};
-use pay_io::SlidingBuffer;
+use crate::reading::{FrameFault, frame_of, frames_in_front, read};
+use crate::sliding_buffer::SlidingBuffer;
 use std::alloc::{AllocError, Global};
 use std::marker::Model;
 
-// term: cutter: what cuts a stream into frames, or a text into lines, as its bytes come
 /// Splits a stream of bytes into frames, however the stream is cut into pieces.
 ///
 /// It buffers at most `CUTTER_ROOM` bytes. `new` allocates the buffer, and no later call allocates.
@@ -43,7 +41,7 @@ impl Cutter {
     ghost use Rattle.pay_frame.specs.Lent.{fields_of, given_of};
     ghost use Rattle.pay_frame.specs.Passing.{Passes};
 
-    /// An empty cutter. This is the only call that allocates.
+    /// Creates an empty cutter. This is the only call that allocates.
     // promise: one stream
     pub fn new(alloc: Global) -> Result<Cutter, AllocError>
         ensures empty { IfOk result (λ cutter. cutter ≡ nothing_held) }
@@ -54,8 +52,8 @@ impl Cutter {
         })
     }
 
-    /// Buffers as much of the piece as fits, and returns how many bytes that is: none after `next`
-    /// returned a fault.
+    /// Buffers as much of `piece` as fits, and returns how many bytes were buffered. After `next`
+    /// returned a fault it buffers nothing.
     // promise: memory; one stream
     pub fn feed(&mut self, piece: &[u8]) -> usize
         ensures feeds { Feeds self.old self.new piece.now result }
@@ -66,8 +64,8 @@ impl Cutter {
         self.stream.append(piece)
     }
 
-    /// Removes and returns the next frame of the stream, if it is complete. Once it has returned a
-    /// fault, every later call of `next` and `end` returns the same one.
+    /// Removes and returns the next frame of the stream, if it is complete. After a fault, every
+    /// later call of `next` and `end` returns the same fault.
     // promise: memory; one stream
     pub fn next(&mut self) -> Result<Option<FrameRef<'_>>, FrameFault>
         ensures* hands_out { sem 𝓛 (follows_so the_row the_row
@@ -81,8 +79,8 @@ impl Cutter {
         }
     }
 
-    /// Removes the complete frames in front, at most `most` of them, and returns their count, as
-    /// that many calls of `next` would. `given_bytes` lends their bytes.
+    /// Removes up to `most` complete frames from the front, and returns their count. It does what
+    /// that many calls of `next` would do. `given_bytes` lends their bytes.
     // promise: memory; one stream
     pub fn pass_frames(&mut self, most: usize) -> Result<usize, FrameFault>
         requires most { 0 < most }
@@ -104,7 +102,7 @@ impl Cutter {
         }
     }
 
-    /// The bytes of the frames that were removed last.
+    /// Returns the bytes of the frames that were removed last.
     // promise: one stream
     pub fn given_bytes(&self) -> &[u8]
         ensures { result.now ≡ self.now.given }
@@ -112,8 +110,8 @@ impl Cutter {
         self.stream.consumed_bytes()
     }
 
-    /// Whether the stream may end here, with no complete frame in front: `Ok` if nothing is
-    /// buffered, else the fault of the buffered bytes, or `Truncated`.
+    /// Returns `Ok` if the stream may end here. If bytes are still buffered it returns their fault,
+    /// or `Truncated`. No complete frame may be in front.
     // promise: memory; one stream
     pub fn end(&self) -> Result<(), FrameFault>
         requires drained { IsDrained self.now.bytes }
@@ -138,7 +136,7 @@ impl Cutter {
         Ok(self.pass_frames(1)? > 0)
     }
 
-    /// The frame that `pass` moved past.
+    /// Returns the frame that `pass` moved past.
     fn handed_out(&self) -> FrameRef<'_>
         requires { IsWhole self.now.given }
         ensures { frame_bytes (fields_of result) ≡ self.now.given }

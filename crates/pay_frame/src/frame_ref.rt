@@ -1,13 +1,13 @@
 ghost use Rattle.std.specs.Prelude.{◌≡◌};
 ghost use Rattle.pay_frame.specs.Frame.{IsFrame, body_of_parts, frame_of_parts, head_bytes};
 
-use crate::kind::Kind;
+use crate::body::Kind;
 
 /// A frame that borrows the buffer it was read from.
 ///
-/// The type keeps that its parts are within the format's limits and that the head encodes them.
-/// (It has ghost fields and no model: only so does the check prove a result that borrows from
-/// `&mut self`.)
+/// The type keeps that its parts are within the format's limits and that the head encodes them. It
+/// has ghost fields and no model, since only then can the prover check a result that borrows from
+/// `&mut self`.
 #[derive(Debug, Drop)]
 pub struct FrameRef<'a> {
     pub(crate) kind: Kind,
@@ -35,35 +35,36 @@ impl<'a> FrameRef<'a> {
         self.kind
     }
 
-    /// The sender.
+    /// Returns the number of the sender.
     pub fn from(&self) -> u16
         ensures value { result ≡ (fields_of self.now).from }
     {
         self.from
     }
 
-    /// The receiver.
+    /// Returns the number of the receiver.
     pub fn to(&self) -> u16
         ensures value { result ≡ (fields_of self.now).to }
     {
         self.to
     }
 
-    /// Its index in the sender's list of sent bodies, or, in a WANT, the next index wanted.
+    /// Returns the frame's index in the sender's list of sent bodies. In a WANT it is the next
+    /// index that is wanted.
     pub fn number(&self) -> u64
         ensures value { result ≡ (fields_of self.now).number }
     {
         self.number
     }
 
-    /// Whose broadcast it belongs to.
+    /// Returns the member that owns the frame's broadcast.
     pub fn owner(&self) -> u16
         ensures value { result ≡ (fields_of self.now).body.owner }
     {
         self.owner
     }
 
-    /// Which of the owner's broadcasts, counted from 0.
+    /// Returns the sequence number of the frame's broadcast, counted from 0 for each owner.
     pub fn seq(&self) -> u32
         ensures value { result ≡ (fields_of self.now).body.seq }
     {
@@ -76,14 +77,14 @@ impl<'a> FrameRef<'a> {
         self.value
     }
 
-    /// The 24 bytes before the value.
+    /// Returns the 24 bytes before the value.
     pub fn head(&self) -> &'a [u8]
         ensures value { result.now ≡ head_of (fields_of self.now) }
     {
         self.head
     }
 
-    /// The 32 bytes of the tag.
+    /// Returns the 32 bytes of the authentication tag.
     pub fn tag(&self) -> &'a [u8]
         ensures value { result.now ≡ (fields_of self.now).tag }
         ensures limits { IsFrame (fields_of self.now) }

@@ -1,8 +1,8 @@
-//! Frames on the wire, and the byte streams that carry them.
+//! Frames on the wire, the byte streams that carry them, and the loops that read these streams.
 //!
-//! A frame is one message from one member to another, tagged for its receiver. It is defined by its
-//! encoding, a function from fields to bytes (`specs/Frame.antt`). [`read`] and [`write`] are
-//! proved against it, and [`Cutter`] splits a stream into frames.
+//! A frame is one message from one member to another, with an authentication tag for its receiver.
+//! It is defined by its encoding, a function from fields to bytes (`specs/Frame.antt`). [`read`]
+//! and [`write`] are proved against it, and [`Cutter`] splits a stream into frames.
 //!
 //! ```
 //! let mut cutter = Cutter::new(alloc)?;
@@ -11,40 +11,41 @@
 //!     println!(rt; "frame {} of member {}", frame.number(), frame.from())?;
 //! }
 //! ```
+//!
+//! [`Input`] and [`Output`] are devices that count their calls and failures; [`Reader`] and
+//! [`Writer`] make them of `std`'s. [`SlidingBuffer`] holds what was read and not consumed.
+//! [`handle_stream`] reads pieces from an input and cuts them into frames. A [`FrameHandler`] takes
+//! each frame with a state of its own, and the texts that it makes are written to an output.
 #![tactic(auto)]
 
 mod body;
-mod bytes;
 mod cutter;
-mod fault;
+mod device;
+mod engine;
 mod frame_ref;
-mod kind;
 mod laws;
 mod limits;
 mod reading;
-mod shared_body;
-mod stream_laws;
+mod sliding_buffer;
 mod writing;
 
-pub use body::Body;
-pub use bytes::Bytes;
+pub use body::{Body, Bytes, Kind, SharedBody};
 pub use cutter::Cutter;
-pub use fault::FrameFault;
+pub use device::{
+    Counted, DeviceFailed, Input, Output, Reader, StreamFault, Writer, write_all, write_text,
+};
+pub use engine::{EngineFault, FrameHandler, handle_stream};
 pub use frame_ref::FrameRef;
-pub use kind::Kind;
 pub use laws::{
-    beginning_is_drained, cuts_do_not_matter, faults_of_bytes, none_begins_another,
-    nothing_is_a_beginning, one_answer, one_frame_is, one_front, one_reading, one_spelling,
-    read_again, stream_is_frames_and_rest,
+    beginning_is_drained, cuts_do_not_matter, cutter_follows_stream, every_reading, every_stream,
+    exact_text, fault_is_for_good, faults_keep_their_names, faults_of_bytes, frame_sizes,
+    none_begins_another, nothing_is_a_beginning, one_answer, one_frame_is, one_front, one_reading,
+    one_spelling, one_stream, read_again, stream_goes_on, stream_grows, stream_is_frames_and_rest,
 };
 pub use limits::{
-    CUTTER_ROOM, GREATEST_FRAME, GREATEST_VALUE, HEAD_LEN, LEAST_LENGTH, MOST_MEMBERS, SEQS,
-    TAG_LEN,
+    CUTTER_ROOM, GREATEST_FRAME, GREATEST_VALUE, HEAD_LEN, LEAST_LENGTH, MOST_MEMBERS, MOST_READS,
+    MOST_TRIES, SEQS, TAG_LEN,
 };
-pub use reading::{frames_in_front, read, read_one};
-pub use shared_body::SharedBody;
-pub use stream_laws::{
-    cutter_follows_stream, every_reading, every_stream, fault_is_for_good, frame_sizes, one_stream,
-    stream_goes_on, stream_grows,
-};
+pub use reading::{FrameFault, read, read_one};
+pub use sliding_buffer::SlidingBuffer;
 pub use writing::{head_into, write};

@@ -1,27 +1,93 @@
+//! Frames as they are read, and what is wrong with bytes that no frame begins with.
+
 ghost use Rattle.std.specs.Prelude.{◌≡◌, ℕ, ◌+◌, ◌<◌, ◌≤◌, true, false, Some, length, min, IfOk};
 ghost use Rattle.std.specs.Prelude.{IfErr, IfSome, IfNone};
+ghost use Rattle.pay_frame.specs.Cutting.{IsFront};
+ghost use Rattle.pay_frame.specs.Fault.{fault_number, name_of};
 ghost use Rattle.pay_frame.specs.Frame.{code_of, frame_bytes};
 ghost use Rattle.pay_frame.specs.Lent.{fields_of, sized_of, one_of};
-ghost use Rattle.pay_frame.specs.Reading.{IsReading, IsProperBeginning, IsFault, fault_at};
-ghost use Rattle.pay_frame.specs.Cutting.{IsFront};
 ghost use Rattle.pay_frame.specs.OneFrame.{IsOneReading};
 ghost use Rattle.pay_frame.specs.Places.{length_field, says_want, may_stand, PassBelow};
-ghost use Rattle.pay_frame.specs.Places.{IsFirstWrong};
-ghost use Rattle.pay_frame.specs.Places.{IsWhole, IsSizeOf, two_at, eight_at, are_lengths};
-ghost use Rattle.pay_frame.specs.Places.{is_bare_head, is_head};
+ghost use Rattle.pay_frame.specs.Places.{IsFirstWrong, IsWhole, IsSizeOf, two_at, eight_at};
+ghost use Rattle.pay_frame.specs.Places.{are_lengths, is_bare_head, is_head};
+ghost use Rattle.pay_frame.specs.Reading.{IsReading, IsProperBeginning, IsFault, fault_at};
 
-use crate::fault::FrameFault;
+use crate::body::Kind;
 use crate::frame_ref::FrameRef;
-use crate::kind::Kind;
 use crate::limits::{GREATEST_VALUE, HEAD_LEN, LEAST_LENGTH, TAG_LEN};
+use std::fmt;
+use thiserror::Error;
+
+/// The reason why bytes are no frame.
+#[derive(Clone, Copy, Debug, PartialEq, Eq, Error)]
+pub enum FrameFault {
+    /// The length field is below 54 or above 1,078.
+    BadLength,
+    /// The version isn't 1.
+    BadVersion,
+    /// The kind isn't 1 to 4.
+    BadKind,
+    /// The value length isn't the length less 54.
+    BadValueLength,
+    /// The sequence number is above 65,535.
+    BadSeq,
+    /// A WANT has an owner, a sequence number or a value.
+    BadWant,
+    /// The bytes end inside a frame.
+    Truncated,
+    /// More bytes follow the one frame that was expected.
+    Trailing,
+}
+
+impl FrameFault {
+    // promise: order of refusals (number, name)
+    const fn entry(self) -> (u8, &'static str)
+        ensures number { result.0 ≡ fault_number self }
+        ensures name { result.1.now ≡ name_of self }
+    {
+        match self {
+            FrameFault::BadLength => (1, "BadLength"),
+            FrameFault::BadVersion => (2, "BadVersion"),
+            FrameFault::BadKind => (3, "BadKind"),
+            FrameFault::BadValueLength => (4, "BadValueLength"),
+            FrameFault::BadSeq => (5, "BadSeq"),
+            FrameFault::BadWant => (6, "BadWant"),
+            FrameFault::Truncated => (7, "Truncated"),
+            FrameFault::Trailing => (8, "Trailing"),
+        }
+    }
+
+    pub fn number(self) -> u8
+        ensures value { result ≡ fault_number self }
+    {
+        self.entry().0
+    }
+
+    pub fn name(self) -> &'static str
+        ensures value { result.now ≡ name_of self }
+    {
+        self.entry().1
+    }
+}
+
+impl fmt::Display for FrameFault {
+    ghost use Rattle.std.specs.Prelude.{Some};
+    ghost use Rattle.pay_frame.specs.Fault.{frame_fault_words};
+
+    ghost output = { λ fault. Some (frame_fault_words fault) };
+
+    fn fmt<W: fmt::Write>(&self, f: &mut fmt::Formatter<W>) -> fmt::Result {
+        write!(f, "{} {}", self.number(), self.name())
+    }
+}
 
 /// The greatest value of the length field.
 const GREATEST_LENGTH: u16 = LEAST_LENGTH + GREATEST_VALUE;
 
 const WANT: u8 = 4;
 
-/// Decodes the frame in front of the bytes, and returns it with its size, or `None` where the bytes
-/// are a proper prefix of some frame, as no bytes at all are. Otherwise the first wrong byte names
+/// Decodes the frame at the front of `bytes`, and returns it with its size. Returns `None` if
+/// `bytes` is empty or another proper prefix of some frame. Otherwise the first wrong byte names
 /// the fault, which is never `Truncated` or `Trailing`.
 // promise: order of refusals; memory; one reading
 pub fn read(bytes: &[u8]) -> Result<Option<(FrameRef<'_>, usize)>, FrameFault>
@@ -33,8 +99,8 @@ pub fn read(bytes: &[u8]) -> Result<Option<(FrameRef<'_>, usize)>, FrameFault>
     }
 }
 
-/// Decodes bytes that are one frame and nothing else: `Truncated` where they end inside it,
-/// `Trailing` where more bytes follow it, else `read`'s fault.
+/// Decodes `bytes` that are one frame and nothing else. Returns `Truncated` if they end inside the
+/// frame, `Trailing` if more bytes follow it, and otherwise the fault that `read` returns.
 // promise: memory; one reading
 pub fn read_one(bytes: &[u8]) -> Result<FrameRef<'_>, FrameFault>
     ensures one { IsOneReading bytes.now (one_of result) }
@@ -46,9 +112,9 @@ pub fn read_one(bytes: &[u8]) -> Result<FrameRef<'_>, FrameFault>
     }
 }
 
-/// The size and the count of the complete frames in front, at most `most` of them. A fault is
-/// returned only where no frame is before it.
-pub fn frames_in_front(bytes: &[u8], most: usize) -> Result<(usize, usize), FrameFault>
+/// Returns the size and the count of the complete frames at the front of `bytes`, at most `most` of
+/// them. Returns a fault only if no frame is before it.
+pub(crate) fn frames_in_front(bytes: &[u8], most: usize) -> Result<(usize, usize), FrameFault>
     requires most { 0 < most }
     ensures front { IfOk result (λ found. IsFront bytes.now most found.0 found.1) }
     ensures fault { IfErr result (IsFault bytes.now) }
@@ -65,7 +131,7 @@ pub fn frames_in_front(bytes: &[u8], most: usize) -> Result<(usize, usize), Fram
     Ok((size, most))
 }
 
-/// The size of the frame in front, if it is complete.
+/// Returns the size of the frame at the front of `bytes`, if it is complete.
 fn size_in_front(bytes: &[u8]) -> Result<Option<usize>, FrameFault>
     ensures frame { IfOk result (λ found. IfSome found (IsSizeOf bytes.now)) }
     ensures beginning { IfOk result (λ found. IfNone found (IsProperBeginning bytes.now)) }
@@ -85,8 +151,8 @@ fn size_in_front(bytes: &[u8]) -> Result<Option<usize>, FrameFault>
     })
 }
 
-/// Whether all bytes of a complete head are allowed: what `first_wrong` asks place by place, asked
-/// of the fields.
+/// Returns whether all bytes of a complete head are allowed. It tests by fields what `first_wrong`
+/// tests byte by byte.
 fn is_head(bytes: &[u8]) -> bool
     requires { 24 ≤ length bytes.now }
     ensures { result ≡ is_head bytes.now }
@@ -98,7 +164,7 @@ fn is_head(bytes: &[u8]) -> bool
         && (!is_want(bytes) || is_bare(bytes))
 }
 
-/// Whether a head's two lengths are within the limits and belong together.
+/// Returns whether a head's two lengths are within the limits and belong together.
 fn are_lengths(bytes: &[u8]) -> bool
     requires { 24 ≤ length bytes.now }
     ensures { result ≡ are_lengths bytes.now }
@@ -107,7 +173,7 @@ fn are_lengths(bytes: &[u8]) -> bool
     (LEAST_LENGTH..=GREATEST_LENGTH).contains(&length) && two_at(bytes, 22) == length - LEAST_LENGTH
 }
 
-/// Whether a head has owner 0, sequence number 0 and no value.
+/// Returns whether a head has owner 0, sequence number 0 and no value.
 fn is_bare(bytes: &[u8]) -> bool
     requires { 24 ≤ length bytes.now }
     ensures { result ≡ is_bare_head bytes.now }
@@ -115,7 +181,7 @@ fn is_bare(bytes: &[u8]) -> bool
     two_at(bytes, 16) == 0 && two_at(bytes, 20) == 0 && two_at(bytes, 22) == 0
 }
 
-/// The index of the first byte of the head, if any, that isn't allowed.
+/// Returns the index of the first byte of the head, if any, that isn't allowed.
 fn first_wrong(bytes: &[u8]) -> Option<usize>
     ensures none { IfNone result (PassBelow bytes.now (min 24 (length bytes.now))) }
     ensures some { IfSome result (IsFirstWrong bytes.now) }
@@ -128,7 +194,7 @@ fn first_wrong(bytes: &[u8]) -> Option<usize>
     None
 }
 
-/// Whether the byte at an index is allowed there, after a prefix in which every byte is.
+/// Returns whether the byte at index `place` is allowed there. All bytes before it are allowed.
 fn may_stand(bytes: &[u8], place: usize) -> bool
     requires within { place < length bytes.now }
     requires before { PassBelow bytes.now place }
@@ -148,7 +214,7 @@ fn may_stand(bytes: &[u8], place: usize) -> bool
     }
 }
 
-/// The fault that the first wrong byte names.
+/// Returns the fault that the first wrong byte, at `place`, names.
 fn fault_at(bytes: &[u8], place: usize) -> FrameFault
     requires { IsFirstWrong bytes.now place }
     ensures { fault_at bytes.now place ≡ Some result }
@@ -163,7 +229,7 @@ fn fault_at(bytes: &[u8], place: usize) -> FrameFault
     }
 }
 
-/// The frame that the bytes are.
+/// Returns the frame that `bytes` encode.
 pub(crate) fn frame_of(bytes: &[u8]) -> FrameRef<'_>
     requires { IsWhole bytes.now }
     ensures { frame_bytes (fields_of result) ≡ bytes.now }

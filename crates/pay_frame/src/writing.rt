@@ -7,7 +7,7 @@ use std::alloc::{AllocError, Global};
 
 const VERSION: u8 = 1;
 
-/// Encodes a frame's head, the bytes before its value.
+/// Encodes a frame's head, the bytes before its value, into `head`.
 // promise: memory; one reading
 pub fn head_into(head: &mut [u8; 24], from: u16, to: u16, number: u64, body: &Body)
     ensures spelled { head.new ≡ head_bytes from to number body.now }
@@ -48,7 +48,7 @@ pub fn head_into(head: &mut [u8; 24], from: u16, to: u16, number: u64, body: &Bo
     ];
 }
 
-/// Encodes a frame.
+/// Encodes a frame `from` a sender `to` a receiver, with its `number`, `body` and `tag`.
 // promise: one reading
 pub fn write(
     alloc: Global,

@@ -9,8 +9,8 @@ use Rattle.pay_link.specs.Genesis.{GenesisFields}
 use Rattle.pay_group.specs.Backing.{IsBacked, IsGroupList, IsSplit}
 use Rattle.pay_group.specs.ListLaws.{BackedIsListed}
 use Rattle.pay_group.specs.Listed.{list_of_owner}
-use Rattle.pay_group.specs.declared.group_fault.GroupFault.{GroupFault}
-use Rattle.pay_group.specs.declared.group_fault.GroupFault.TheVariants as group
+use Rattle.pay_group.specs.declared.texts.GroupFault.{GroupFault}
+use Rattle.pay_group.specs.declared.texts.GroupFault.TheVariants as group
 use Rattle.pay_audit.specs.Auditor.{first_genesis}
 use Rattle.pay_audit.specs.Export.{ExportFields, IsExport, list_in, lists_of}
 use Rattle.pay_audit.specs.Said.{Each}

@@ -9,11 +9,11 @@ use Rattle.pay_link.specs.Genesis.{GenesisFields}
 use Rattle.pay_audit.specs.Auditor.{first_genesis}
 use Rattle.pay_audit.specs.Export.{ExportFields}
 use Rattle.pay_audit.specs.Verdict.{first_from, other_genesis, other_genesis_at, same_genesis}
-use Rattle.pay_audit.specs.declared.verdict.Verdict.{Verdict}
-use Rattle.pay_audit.specs.declared.verdict.Verdict.TheVariants.{OtherGenesis}
+use Rattle.pay_audit.specs.declared.auditing.Verdict.{Verdict}
+use Rattle.pay_audit.specs.declared.auditing.Verdict.TheVariants.{OtherGenesis}
 use Rattle.pay_group.specs.Book.{HasNoBook, other_by, twice_at, twice_from}
-use Rattle.pay_group.specs.declared.book_fault.BookFault.{BookFault}
-use Rattle.pay_group.specs.declared.book_fault.BookFault.TheVariants.{Twice}
+use Rattle.pay_group.specs.declared.booking.BookFault.{BookFault}
+use Rattle.pay_group.specs.declared.booking.BookFault.TheVariants.{Twice}
 
 -- ---- from a place on
 

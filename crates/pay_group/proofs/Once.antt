@@ -9,8 +9,8 @@ use Rattle.pay_audit.specs.Said.{Each}
 use Rattle.pay_audit.specs.Verdict.{first_from}
 use Rattle.pay_group.specs.Book.{twice_at, twice_from}
 use Rattle.pay_group.specs.BookLaws.{MembersVouchOnce}
-use Rattle.pay_group.specs.declared.book_fault.BookFault.{BookFault}
-use Rattle.pay_group.specs.declared.book_fault.BookFault.TheVariants.{Twice}
+use Rattle.pay_group.specs.declared.booking.BookFault.{BookFault}
+use Rattle.pay_group.specs.declared.booking.BookFault.TheVariants.{Twice}
 use Rattle.pay_group.proofs.Members.{none_first, none_rest}
 
 pub counted_more : {X : Type 0} (p : X → Bool) (x : X) (xs : List X) → count_by p (x ∷ xs) ≡ cond (p x) 1 0 + count_by p xs

@@ -10,7 +10,7 @@ use Rattle.pay_audit.specs.ByLists.{HasOwnBook}
 use Rattle.pay_audit.specs.Export.{ExportFields, list_in, lists_of}
 use Rattle.pay_group.specs.Book.{listed_by}
 use Rattle.pay_group.specs.BookLaws.{BookIsOne, NoBookOfAFault}
-use Rattle.pay_group.specs.declared.book_fault.BookFault.TheVariants.{Memory, OtherGenesis, Twice, Few, Split}
+use Rattle.pay_group.specs.declared.booking.BookFault.TheVariants.{Memory, OtherGenesis, Twice, Few, Split}
 
 some_first : (exports : List ExportFields) (g : GenesisFields) → first_genesis exports ≡ Some g → (e : ExportFields) × (slice_get exports 0 ≡ Some e)
 some_first [] g first = absurd cc

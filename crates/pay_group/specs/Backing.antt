@@ -1,6 +1,6 @@
--- What several members' lists of one account have in common, where at most f of the members lie: a
--- list that more than f lists begin with is one that a correct member has (Malkhi, Reiter,
--- Byzantine Quorum Systems, 1998, section 4: a value for which f + 1 servers vouch).
+-- What several members' lists of one account have in common. If at most f of the members are
+-- faulty, a list that more than f lists begin with is one that a correct member has. This follows
+-- Malkhi, Reiter, Byzantine Quorum Systems, 1998, section 4: a value for which f + 1 servers vouch.
 use Rattle.std.specs.Prelude.{◌≡◌, ◌≢◌, ℕ, ◌≤◌, ◌<◌, List, [], ◌∷◌, ◌++◌, Bool, true, false, ◌&&◌}
 use Rattle.std.specs.Prelude.{length, slice_get}
 use Rattle.std.specs.Option.{option_map_or}
@@ -14,21 +14,21 @@ begins [] list = true
 begins (v ∷ l) [] = false
 begins (v ∷ l) (w ∷ list) = bytes_eq v w && begins l list
 
--- how many of the lists do
+-- how many of the lists begin with l
 abbrev pub backers : List (List (List ℕ)) → List (List ℕ) → ℕ
 backers lists l = count_by (begins l) lists
 
--- more than f of them do
+-- more than f of the lists begin with l
 abbrev pub IsBacked : ℕ → List (List (List ℕ)) → List (List ℕ) → Type 0
 IsBacked f lists l = f < backers lists l
 
--- The group's list is backed, and begins with each list that is.
+-- The group's list is backed, and begins with each backed list.
 pub record IsGroupList (f : ℕ) (lists : List (List (List ℕ))) (l : List (List ℕ)) : Type 0 where
   pub backed : IsBacked f lists l
   pub longest : (m : List (List ℕ)) → IsBacked f lists m → IsPrefix m l
 
--- Two values are backed at one place, after the same values: more than f of the members lie. Up to
--- there one list is backed.
+-- Two values are backed at one place, after one prefix: more than f of the members are faulty. Up
+-- to there one list is backed.
 pub record IsSplit (f : ℕ) (lists : List (List (List ℕ))) (place : ℕ) : Type 0 where
   pub before : List (List ℕ)
   pub at : length before ≡ place

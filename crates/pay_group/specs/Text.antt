@@ -1,5 +1,5 @@
--- What is written of exports: the group's book, what waits, and what single exports have beyond it;
--- or why there is no book.
+-- What is written about exports: the group ledger, what waits, and what single exports have beyond
+-- it; or why there is no group ledger.
 use Rattle.std.specs.Prelude.{◌≡◌, ◌≢◌, ℕ, ◌-◌, ◌==◌, nat_lt, Bool, true, false, List, []}
 use Rattle.std.specs.Prelude.{◌++◌, codes, decimal, length, slice_index, sum, Option, Some, None}
 use Rattle.std.specs.Prelude.{if◌then◌else◌}
@@ -15,9 +15,9 @@ use Rattle.pay_audit.specs.Exporting.{export_data, genesis_members}
 use Rattle.pay_audit.specs.Findings.{end_of_line, payment_or_void}
 use Rattle.pay_audit.specs.Verdict.{fork_place}
 use Rattle.pay_group.specs.Book.{HasNoBook, IsGroupBook}
-use Rattle.pay_group.specs.declared.book_fault.BookFault.{BookFault}
-use Rattle.pay_group.specs.declared.book_fault.BookFault.TheVariants.{Memory, OtherGenesis, Twice}
-use Rattle.pay_group.specs.declared.book_fault.BookFault.TheVariants.{Few, Split}
+use Rattle.pay_group.specs.declared.booking.BookFault.{BookFault}
+use Rattle.pay_group.specs.declared.booking.BookFault.TheVariants.{Memory, OtherGenesis, Twice, Few}
+use Rattle.pay_group.specs.declared.booking.BookFault.TheVariants.{Split}
 use Rattle.pay_group.specs.declared.texts.BookForm.{BookForm}
 use Rattle.pay_group.specs.declared.texts.BookForm.TheVariants.{Lines, NextGenesis, AsExport}
 
@@ -37,13 +37,13 @@ unfoldable pub shortfall_words : ℕ → Entry → List ℕ
 shortfall_words balance (entry.Pay payee amount) = codes " short " ++ decimal (amount - balance)
 shortfall_words balance entry.Void = []
 
--- the first of an account also says what it lacks
+-- the first entry of an account also has what the balance lacks for it
 abbrev pub lack_words : ExportFields → ℕ → ℕ → Entry → List ℕ
 lack_words b account number e =
     if number == slice_index b.front account
     then shortfall_words (slice_index b.balances account) e else []
 
--- `waits account A entry E seq S ..`, by its number and that of its value
+-- `waits account A entry E seq S ..`, with the entry's number and that of its value
 unfoldable pub waits_words : ExportFields → ℕ → ℕ → ℕ → Entry → List ℕ
 waits_words b account number seq e =
     codes "waits account " ++ decimal account ++ codes " entry " ++ decimal number ++ codes " seq "
@@ -61,7 +61,7 @@ account_waiting_words b account =
     flat_map (if_waits b account)
     (enumerate_from 0 (numbered_entries_of b.genesis.members (lists_of b) account))
 
--- ---- what single exports have beyond it
+-- ---- what single exports have beyond the group ledger
 
 -- `WORD X account A seq S`
 unfoldable pub claim_words : List ℕ → ℕ → ℕ → ℕ → List ℕ
@@ -70,7 +70,8 @@ claim_words word x account seq =
     ++ decimal seq
     ++ end_of_line
 
--- where an export has another value within the group's list, or else goes on at its end
+-- the place at which an export has another value within the group's list, or else continues after
+-- its end
 abbrev pub against_words : ℕ → ℕ → Option ℕ → ℕ → ℕ → List ℕ
 against_words x account (Some seq) end long = claim_words (codes "differs") x account seq
 against_words x account None end long =
@@ -94,7 +95,7 @@ total_words b = codes "total " ++ decimal (sum b.balances) ++ end_of_line
 abbrev pub all_waiting_words : ExportFields → List ℕ
 all_waiting_words b = flat_map (account_waiting_words b) (range_with_len 0 b.genesis.members)
 
--- what is beyond the book, export by export
+-- what is beyond the group ledger, export by export
 abbrev pub all_export_words : ExportFields → List ExportFields → List ℕ
 all_export_words b exports = flat_map (λ n. export_words b n.0 n.1) (enumerate_from 0 exports)
 
@@ -105,14 +106,15 @@ book_words exports b =
     ++ all_export_words b exports
     ++ total_words b
 
--- the group's book as it is asked for: in lines, as the genesis of the next group, or as an export
+-- the group ledger in the requested form: in lines, as the genesis of the next group, or as an
+-- export
 unfoldable pub form_words : BookForm → List ExportFields → ExportFields → List ℕ
 form_words Lines exports b = book_words exports b
 form_words NextGenesis exports b =
     compact_text (object (genesis_members (next_genesis b))) ++ end_of_line
 form_words AsExport exports b = compact_text (export_data b) ++ end_of_line
 
--- the line that says why there is no book
+-- the line that says why there is no group ledger
 unfoldable pub fault_words : BookFault → List ℕ
 fault_words Memory = []
 fault_words (OtherGenesis x) = codes "1 genesis " ++ decimal x ++ end_of_line
@@ -121,8 +123,8 @@ fault_words (Few count) = codes "6 few " ++ decimal count ++ end_of_line
 fault_words (Split account seq) =
     codes "7 split account " ++ decimal account ++ codes " seq " ++ decimal seq ++ end_of_line
 
--- What is said of exports: the text of their book, and that it is one; or the line of a fault that
--- they have, and that there is none. Where memory was refused nothing is said.
+-- What is said about exports: the text of their group ledger, or the line of a fault that they
+-- have. If memory ran out nothing is said.
 abbrev pub IsBookText : List ExportFields → BookForm → Bool → List ℕ → Type 0
 IsBookText exports form true text =
     (b : ExportFields) × IsGroupBook exports b × (text ≡ form_words form exports b)

@@ -1,22 +1,59 @@
-//! The group's book, by exports of its members.
+//! The group ledger of members' exports.
 
 ghost use Rattle.std.specs.Prelude.{◌≡◌, ◌+◌, ◌^◌, ◌<◌, IfErr, IfOk, Some, length, map, slice_get};
-ghost use Rattle.pay_audit.specs.Verdict.{first_from};
 ghost use Rattle.pay_audit.specs.Export.{IsExport};
 ghost use Rattle.pay_audit.specs.Said.{Each};
-ghost use Rattle.pay_group.specs.Book.{AreOfGroup, HasNoBook, IsGroupBook, other_by};
-ghost use Rattle.pay_group.specs.Book.{split_by};
+ghost use Rattle.pay_audit.specs.Verdict.{first_from};
+ghost use Rattle.pay_group.specs.Book.{AreOfGroup, HasNoBook, IsGroupBook, other_by, split_by};
 ghost use Rattle.pay_group.specs.Book.{twice_at, twice_from};
+ghost use Rattle.pay_group.specs.declared.booking.BookFault.TheVariants.{Memory};
 
-use crate::book_fault::BookFault;
-use crate::group_fault::GroupFault;
 use crate::laws::backed_is_listed;
-use crate::lists::group_lists;
+use crate::listing::group_lists;
+use crate::texts::GroupFault;
 use pay_audit::{Export, Verdict, export_of_lists, other_genesis};
-use std::alloc::{AllocError, Global};
+use std::alloc::{AllocError, AllocFailed, Global};
+use thiserror::Error;
 
-/// The book of the group by these exports: of each account the longest list with which more than
-/// `f` of them begin, and all settled that these lists allow.
+/// The reason why exports, named by their places from 0, have no group ledger.
+#[derive(Clone, Copy, Debug, PartialEq, Eq, Error)]
+pub enum BookFault {
+    /// An allocation failed.
+    #[error("no memory")]
+    Memory,
+    /// An export has another genesis than export 0.
+    #[error("1 genesis {export}")]
+    OtherGenesis { export: usize },
+    /// Two exports belong to one member.
+    #[error("5 twice {one} {other}")]
+    Twice { one: usize, other: usize },
+    /// There are no more exports than there may be faulty members.
+    #[error("6 few {count}")]
+    Few { count: usize },
+    /// Two values under one number of an account are each listed by more exports than there may be
+    /// faulty members.
+    #[error("7 split account {account} seq {seq}")]
+    Split { account: u16, seq: u32 },
+}
+
+impl From<AllocError> for BookFault {
+    ghost from_gives = { λ _ e. e ≡ Memory };
+
+    fn from(_error: AllocError) -> BookFault {
+        BookFault::Memory
+    }
+}
+
+impl<T: Drop> From<AllocFailed<T>> for BookFault {
+    ghost from_gives = { λ _ e. e ≡ Memory };
+
+    fn from(_error: AllocFailed<T>) -> BookFault {
+        BookFault::Memory
+    }
+}
+
+/// Returns the group ledger of `exports`. For each account it has the longest list that more than
+/// `f` of them begin with, and all that these lists allow is settled.
 // promise: group's book
 pub fn group_book(alloc: Global, exports: &[Export]) -> Result<Export, BookFault>
     ensures book { IfOk result (IsGroupBook exports.now) }
@@ -38,8 +75,8 @@ pub fn group_book(alloc: Global, exports: &[Export]) -> Result<Export, BookFault
     settled_book(alloc, exports, first)
 }
 
-/// The book of exports of one genesis and of different members, of whom more are there than may
-/// lie.
+/// Returns the ledger of exports of one genesis and of different members. There are more of them
+/// than there may be faulty members.
 fn settled_book(alloc: Global, exports: &[Export], first: &Export) -> Result<Export, BookFault>
     requires first { slice_get exports.now 0 ≡ Some first.now }
     requires are { AreOfGroup first.now.genesis exports.now }
@@ -61,7 +98,7 @@ fn settled_book(alloc: Global, exports: &[Export], first: &Export) -> Result<Exp
     }
 }
 
-// Another genesis as a fault; no other verdict comes here.
+// Returns another genesis as a fault. No other verdict comes here.
 fn other_by(verdict: Verdict) -> BookFault
     ensures { result ≡ other_by verdict }
 {
@@ -83,7 +120,7 @@ fn split_by(fault: GroupFault) -> BookFault
     }
 }
 
-// Exports, each lent.
+// Returns references to all exports.
 fn lend_each<'a>(alloc: Global, exports: &'a [Export]) -> Result<Vec<&'a Export>, AllocError>
     ensures lent { IfOk result (λ lent. map (λ e. e.now) lent.items ≡ exports.now) }
     ensures limits { IfOk result (λ _. Each IsExport exports.now) }
@@ -97,7 +134,7 @@ fn lend_each<'a>(alloc: Global, exports: &'a [Export]) -> Result<Vec<&'a Export>
     Ok(lent)
 }
 
-// The first two exports of one member.
+// Returns the first two exports of one member.
 fn twice(exports: &[Export]) -> Option<BookFault>
     ensures { result ≡ twice_from 0 exports.now }
 {
@@ -111,8 +148,8 @@ fn twice(exports: &[Export]) -> Option<BookFault>
     None
 }
 
-// The first export of the same member as export `one` among those that follow, of which the first
-// is at `next`.
+// Returns the first export of the member of export `one` among those that follow. The first of
+// these has the place `next`.
 fn twice_after(one: usize, export: &Export, next: usize, following: &[Export]) -> Option<BookFault>
     requires { next + length following.now < 2 ^ 64 }
     ensures { result ≡ first_from (twice_at one export.now.member) next following.now }

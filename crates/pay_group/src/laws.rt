@@ -1,5 +1,5 @@
 //! Laws of the definitions. Each function's contract is the law; its body only names the laws that
-//! it stands on.
+//! the proof needs.
 
 ghost use Rattle.pay_group.specs.BookLaws.{BookIsOne, BookIsVouchedFor, GroupBookIsSettled};
 ghost use Rattle.pay_group.specs.BookLaws.{MembersVouchOnce, NextGenesisIsOne, NoBookOfAFault};
@@ -8,8 +8,8 @@ ghost use Rattle.pay_group.specs.ListLaws.{NoListOfASplit, OneGroupList};
 
 use pay_book::laws::{book_keeps_total, settled_book_exists, settled_is_largest};
 
-/// Of more lists than members may lie the group has one list, or two values are split: one of the
-/// two, and one list.
+/// States that more lists than there may be faulty members have one group list or a split, never
+/// both. There is only one group list.
 // promise: group's book
 pub fn list_or_split()
     ensures exists { ListOrSplit }
@@ -17,20 +17,21 @@ pub fn list_or_split()
     ensures not_both { NoListOfASplit }
 {}
 
-/// Where at most `f` of the members lie, the group's list is how the list of a correct member
-/// begins.
+/// States that the group's list is a prefix of the list of a correct member, if at most `f` of the
+/// members are faulty.
 // promise: vouched for
 pub fn backed_is_vouched_for()
     ensures { BackedIsVouchedFor }
 {}
 
-/// What more than `f` lists begin with is how one of them begins.
+/// States that what more than `f` lists begin with is a prefix of one of them.
 // promise: vouched for
 pub fn backed_is_listed()
     ensures { BackedIsListed }
 {}
 
-/// Exports have one book at most, and none where something else than memory is named in its place.
+/// States that exports have at most one group ledger, and none if a fault other than lack of memory
+/// is named.
 // promise: group's book
 pub fn book_is_one()
     ensures one { BookIsOne }
@@ -39,15 +40,15 @@ pub fn book_is_one()
     list_or_split();
 }
 
-/// Exports of which no two are of one member: however many members lie, they have no more exports
-/// than they are.
+/// States that members have no more exports than they are, if no two exports belong to one member.
+/// This holds for any set of faulty members.
 // promise: vouched for
 pub fn members_vouch_once()
     ensures { MembersVouchOnce }
 {}
 
-/// Where at most `f` members are faulty, each list of the group's book is how the list of a correct
-/// member begins.
+/// States that each list of the group ledger is a prefix of the list of a correct member, if at
+/// most `f` members are faulty.
 // promise: vouched for
 pub fn book_is_vouched_for()
     ensures { BookIsVouchedFor }
@@ -56,7 +57,7 @@ pub fn book_is_vouched_for()
     members_vouch_once();
 }
 
-/// All is settled in a group's book that its lists allow.
+/// States that a group ledger has settled all that its lists allow.
 // promise: group's book
 pub fn book_is_settled()
     ensures { GroupBookIsSettled }
@@ -65,8 +66,8 @@ pub fn book_is_settled()
     settled_is_largest();
 }
 
-/// What `next_genesis` makes of a group's book is a genesis, in which each account opens with its
-/// balance, and all of them with as much as the group did.
+/// States that `next_genesis` makes a genesis of a group ledger. Each account opens with its
+/// balance, and all together with as much as the group did.
 // promise: group's book
 pub fn next_genesis_is_one()
     ensures { NextGenesisIsOne }

@@ -1,23 +1,65 @@
-//! The lines of a group's book.
+//! The lines of a group ledger.
 
-ghost use Rattle.std.specs.Prelude.{◌≡◌, ◌<◌, ◌++◌, ◌^◌, OnOk, length, sum};
+ghost use Rattle.std.specs.Prelude.{◌≡◌, ◌++◌, map, IfOk, OnOk, ◌<◌, ◌^◌, length, sum};
 ghost use Rattle.std.specs.List.{enumerate_from, flat_map, range_with_len};
 ghost use Rattle.pay_audit.specs.Findings.{payment_or_void};
+ghost use Rattle.pay_book.specs.Payment.{entries_in};
+ghost use Rattle.pay_book.specs.Statement.{numbered_entries_of};
 ghost use Rattle.pay_group.specs.Book.{AreOfSize};
 ghost use Rattle.pay_group.specs.Text.{account_words, against_words, all_export_words};
-ghost use Rattle.pay_group.specs.Text.{all_waiting_words, beyond_words, claim_words};
-ghost use Rattle.pay_group.specs.Text.{export_words, if_waits, lack_words};
-ghost use Rattle.pay_group.specs.Text.{shortfall_words, total_words, account_waiting_words};
-ghost use Rattle.pay_group.specs.Text.{waits_words};
+ghost use Rattle.pay_group.specs.Text.{all_waiting_words, beyond_words, claim_words, export_words};
+ghost use Rattle.pay_group.specs.Text.{if_waits, lack_words, shortfall_words, total_words};
+ghost use Rattle.pay_group.specs.Text.{account_waiting_words, waits_words};
 
-use crate::entries::numbered_entries;
 use pay_audit::{Export, difference_at};
-use pay_book::Entry;
+use pay_book::laws::values_count_their_entries;
+use pay_book::{Entry, entries_in, entry_at};
 use pay_channel::Source;
 use pay_text::{push_number, push_word};
 use std::alloc::{AllocError, Global};
 
-/// How many entries of each account are settled, and its balance.
+/// Returns the entries of an account's list in their order, each with the number of its value.
+pub(crate) fn numbered_entries<S: Source>(
+    alloc: Global,
+    source: &S,
+    accounts: u16,
+    account: u16,
+) -> Result<Vec<(u32, Entry)>, AllocError>
+    ensures { IfOk result (λ entries. entries.items
+        ≡ numbered_entries_of accounts (S.lists source.now) account) }
+{
+    let mut entries = Vec::new(alloc);
+    for seq in 0..source.length(account) {
+        push_entries(
+            &mut entries,
+            source.at(account, seq),
+            seq,
+            account,
+            accounts,
+        )?;
+    }
+    Ok(entries)
+}
+
+// Appends the entries of a value to `entries`.
+fn push_entries(
+    entries: &mut Vec<(u32, Entry)>,
+    value: &[u8],
+    seq: u32,
+    account: u16,
+    accounts: u16,
+) -> Result<(), AllocError>
+    ensures { OnOk result (entries.new.items ≡ entries.old.items
+        ++ map (λ e. (seq, e)) (entries_in accounts account value.now)) }
+{
+    values_count_their_entries();
+    for place in 0..entries_in(value) {
+        entries.push((seq, entry_at(value, place, account, accounts)))?;
+    }
+    Ok(())
+}
+
+/// Appends how many entries of each account are settled, and its balance, to `out`.
 pub(crate) fn push_accounts(out: &mut Vec<u8>, book: &Export) -> Result<(), AllocError>
     ensures { OnOk result (out.new.items ≡ out.old.items
         ++ flat_map (account_words book.now) (range_with_len 0 book.now.genesis.members)) }
@@ -42,7 +84,7 @@ fn push_account(out: &mut Vec<u8>, book: &Export, account: u16) -> Result<(), Al
     push_word(out, "\n")
 }
 
-/// What waits, account by account.
+/// Appends what waits, account by account, to `out`.
 pub(crate) fn push_all_waiting(
     alloc: Global,
     out: &mut Vec<u8>,
@@ -56,7 +98,7 @@ pub(crate) fn push_all_waiting(
     Ok(())
 }
 
-// An account's entries after its front.
+// Appends an account's entries after its front.
 #[tactic(auto, unfolding(crate::specs::Text::account_waiting_words))]
 fn push_waiting(
     alloc: Global,
@@ -88,7 +130,7 @@ fn push_those_that_wait(
     Ok(())
 }
 
-// An entry, if it isn't settled.
+// Appends an entry, if it isn't settled.
 fn push_if_waiting(
     out: &mut Vec<u8>,
     book: &Export,
@@ -145,7 +187,7 @@ fn push_entry(out: &mut Vec<u8>, entry: Entry) -> Result<(), AllocError>
     }
 }
 
-// What the balance lacks of an account's first payment that waits.
+// Appends what the balance lacks for an account's first payment that waits.
 fn push_lack(
     out: &mut Vec<u8>,
     book: &Export,
@@ -177,7 +219,7 @@ fn push_short(out: &mut Vec<u8>, balance: u64, entry: Entry) -> Result<(), Alloc
     }
 }
 
-/// What is beyond the book, export by export.
+/// Appends what is beyond the ledger, export by export, to `out`.
 pub(crate) fn push_all_exports(
     out: &mut Vec<u8>,
     book: &Export,
@@ -210,8 +252,8 @@ fn push_export(
     Ok(())
 }
 
-// Where an export has another value of an account within the group's list, or else goes on at its
-// end.
+// Appends the place at which an export has another value of an account within the group's list, or
+// else continues after its end.
 #[tactic(auto, unfolding(crate::specs::Text::beyond_words))]
 fn push_beyond(
     out: &mut Vec<u8>,
@@ -259,7 +301,7 @@ fn push_claim(
     push_word(out, "\n")
 }
 
-/// What all balances are together.
+/// Appends the sum of all balances to `out`.
 #[tactic(auto, unfolding(crate::specs::Text::total_words))]
 pub(crate) fn push_total(out: &mut Vec<u8>, book: &Export) -> Result<(), AllocError>
     requires total { sum book.now.balances < 2 ^ 64 }

@@ -1,38 +1,69 @@
-//! What is said of exports as a whole.
+//! What is said about exports as a whole.
 
 ghost use Rattle.std.specs.Prelude.{◌≡◌, ◌++◌, IfOk, OnOk};
 ghost use Rattle.pay_audit.specs.Findings.{end_of_line};
 ghost use Rattle.pay_group.specs.Book.{IsGroupBook};
-ghost use Rattle.pay_group.specs.Text.{IsBookText, book_words, fault_words};
-ghost use Rattle.pay_group.specs.Text.{form_words};
+ghost use Rattle.pay_group.specs.Text.{IsBookText, book_words, fault_words, form_words};
 
-use crate::book_fault::BookFault;
-use crate::booking::group_book;
+use crate::booking::{BookFault, group_book};
 use crate::lines::{push_accounts, push_all_exports, push_all_waiting, push_total};
 use pay_audit::{Export, genesis_text, next_genesis, shown_text};
 use pay_book::laws::{book_keeps_total, settled_book_exists};
 use pay_text::{push_number, push_word};
-use std::alloc::{AllocError, Global};
+use std::alloc::{AllocError, AllocFailed, Global};
+use thiserror::Error;
 
-/// How a group's book is written.
+/// The reason why there is no group ledger.
+#[derive(Clone, Copy, Debug, PartialEq, Eq, Error)]
+pub enum GroupFault {
+    /// An allocation failed.
+    #[error("no memory")]
+    Memory,
+    /// Two values under one number of an account are each listed by more than `f` members, so more
+    /// than `f` are faulty.
+    #[error("two values under {seq} of account {owner}")]
+    Split { owner: u16, seq: u32 },
+}
+
+impl From<AllocError> for GroupFault {
+    ghost use Rattle.pay_group.specs.declared.texts.GroupFault.TheVariants.{Memory};
+
+    ghost from_gives = { λ _ e. e ≡ Memory };
+
+    fn from(_error: AllocError) -> GroupFault {
+        GroupFault::Memory
+    }
+}
+
+impl<T: Drop> From<AllocFailed<T>> for GroupFault {
+    ghost use Rattle.pay_group.specs.declared.texts.GroupFault.TheVariants.{Memory};
+
+    ghost from_gives = { λ _ e. e ≡ Memory };
+
+    fn from(_error: AllocFailed<T>) -> GroupFault {
+        GroupFault::Memory
+    }
+}
+
+/// The forms of a group ledger.
 #[derive(Clone, Copy, Debug, PartialEq, Eq)]
 pub enum BookForm {
-    /// In lines, for people.
+    /// Lines, for people.
     Lines,
-    /// As the genesis of the next group: each account opens with its balance.
+    /// The genesis of the next group: each account opens with its balance.
     NextGenesis,
-    /// As an export.
+    /// An export.
     AsExport,
 }
 
-/// The text of a group's book, or the line that says why there is none.
+/// The text of a group ledger, or the line that says why there is none.
 #[derive(Debug, Drop)]
 pub struct Said {
     pub text: Vec<u8>,
     pub is_book: bool,
 }
 
-/// What is said of these exports.
+/// Returns what is said about `exports`, in this `form`.
 // promise: group's book
 pub fn book_text(alloc: Global, exports: &[Export], form: BookForm) -> Result<Said, AllocError>
     ensures { IfOk result (λ said. IsBookText exports.now form said.is_book said.text.items) }
@@ -50,7 +81,7 @@ pub fn book_text(alloc: Global, exports: &[Export], form: BookForm) -> Result<Sa
     }
 }
 
-/// The book as it is asked for.
+/// Returns the group ledger in this `form`.
 #[tactic(auto, unfolding(crate::specs::Text::form_words))]
 fn text_in(
     alloc: Global,
@@ -73,7 +104,7 @@ fn text_in(
     }
 }
 
-/// A line with this text.
+/// Returns a line with this `text`.
 fn line_of(alloc: Global, text: &str) -> Result<Vec<u8>, AllocError>
     ensures { IfOk result (λ line. line.items ≡ text.now ++ end_of_line) }
 {
@@ -98,7 +129,7 @@ fn lines_text(alloc: Global, exports: &[Export], book: &Export) -> Result<Vec<u8
     Ok(text)
 }
 
-/// The line that says why there is no book.
+/// Returns the line that says why there is no group ledger.
 fn fault_text(alloc: Global, fault: BookFault) -> Result<Vec<u8>, AllocError>
     ensures { IfOk result (λ text. text.items ≡ fault_words fault) }
 {

@@ -17,7 +17,7 @@ inner_pad = replicate block_bytes 0x36
 abbrev pub outer_pad : List ℕ
 outer_pad = replicate block_bytes 0x5C
 
--- K: a key of more than B bytes is hashed first, any other is used as it is (section 2)
+-- K: a key of more than B bytes is hashed first, any other key is used directly (section 2)
 unfoldable pub short_key : List ℕ → List ℕ
 short_key key = if nat_lt block_bytes (length key) then sha256 key else key
 

@@ -1,7 +1,7 @@
-//! Tags: HMAC (RFC 2104) with SHA-256.
+//! Authentication tags: HMAC (RFC 2104) with SHA-256.
 //!
 //! `specs/Mac.antt` defines a tag. Callers that tag and check frames are generic over [`Tagger`],
-//! whose one clause says that the answer is that tag: [`HmacSha256`] hashes the key at each call,
+//! and its one clause says that the answer is that tag. [`HmacSha256`] hashes the key at each call.
 //! [`PreparedHmac`] keeps the pads of some keys hashed.
 //!
 //! Nothing here compares tags, and no comparison in constant time is promised.
@@ -12,13 +12,7 @@
 //! ```
 #![tactic(auto)]
 
-pub use hmac::{HmacSha256, mac};
-pub use prepared_hmac::PreparedHmac;
-pub use prepared_key::PreparedKey;
-pub use tagger::Tagger;
+pub use hmac::{HmacSha256, PreparedHmac, PreparedKey, Tagger, mac};
 
 mod hmac;
 pub mod laws;
-mod prepared_hmac;
-mod prepared_key;
-mod tagger;

@@ -1,5 +1,5 @@
 -- An export's settled payments as plain-text accounting: a journal that hledger and ledger both
--- read. It says of no amount in which unit it is, as the payments don't.
+-- read. It names no unit of amounts, since the payments don't.
 use Rattle.std.specs.Prelude.{◌≡◌, ℕ, List, [], ◌++◌, codes, decimal, slice_index, pos, ◌≤ℤ◌}
 use Rattle.std.specs.List.{flat_map, enumerate_from, range_with_len}
 use Rattle.jiff.specs.Types.{Date}
@@ -10,15 +10,15 @@ use Rattle.pay_desk.specs.Words.{end_of_line}
 use Rattle.pay_audit.specs.Export.{ExportFields}
 use Rattle.pay_journal.specs.Statements.{lines_in}
 
--- This word is a date as YYYY-MM-DD, of a year that both programs have.
+-- The word is a date as YYYY-MM-DD, of a year that both programs have.
 abbrev pub IsDateWord : List ℕ → Date → Type 0
 IsDateWord word date = (word ≡ date_text date) × (pos 1400 ≤ℤ date.year)
 
--- The name of an account, declared so that no program warns of one that it doesn't know.
+-- The name of an account, declared so that no program warns of an unknown one.
 unfoldable pub declared_words : ℕ → List ℕ
 declared_words account = codes "account account:" ++ decimal account ++ end_of_line
 
--- The names of all accounts, and of that which opening balances come from.
+-- The names of all accounts, and of the account that opening balances come from.
 unfoldable pub names_words : ℕ → List ℕ
 names_words members =
     flat_map declared_words (range_with_len 0 members) ++ codes "account equity:opening"
@@ -33,14 +33,14 @@ posting_words sign account amount =
 abbrev pub opening_posting : ExportFields → ℕ → List ℕ
 opening_posting e account = posting_words [] account (slice_index e.genesis.opening account)
 
--- The first transaction: what all accounts opened with. Its last amount is that which balances it.
+-- The first transaction: what all accounts opened with. Its last amount balances it.
 unfoldable pub opening_words : List ℕ → ExportFields → List ℕ
 opening_words day e =
     end_of_line ++ day ++ codes " opening balances" ++ end_of_line
     ++ flat_map (opening_posting e) (range_with_len 0 e.genesis.members)
     ++ codes "    equity:opening" ++ end_of_line
 
--- An account's entry: under which of its values it came, and its number as fronts count entries.
+-- An account's entry: the number of its value, and its own number as fronts count entries.
 unfoldable pub entry_name : ℕ → ℕ → ℕ → List ℕ
 entry_name account seq number =
     codes "account " ++ decimal account ++ codes " seq " ++ decimal seq ++ codes " entry "
@@ -53,8 +53,8 @@ title_words day account number seq =
     end_of_line ++ day ++ codes " (" ++ decimal account ++ codes "." ++ decimal number ++ codes ") "
     ++ entry_name account seq number
 
--- What a line of an account's statement becomes: a payment of its own a transaction, a void entry a
--- comment. What was paid to it is its payer's transaction.
+-- What a line of an account's statement becomes. A payment of its own is a transaction, and a void
+-- entry is a comment. What was paid to the account is its payer's transaction.
 unfoldable pub transaction_words : List ℕ → ℕ → ℕ → Line → List ℕ
 transaction_words day account number (Out seq payee amount) =
     title_words day account number seq
@@ -69,8 +69,8 @@ unfoldable pub account_transactions : List ℕ → ExportFields → ℕ → List
 account_transactions day e account =
     flat_map (λ l. transaction_words day account l.0 l.1) (enumerate_from 0 (lines_in e account))
 
--- The journal of a day, by its text: the names of all accounts, what they opened with, and each
--- account's entries, account by account.
+-- The journal of a day, in its text form: the names of all accounts, what they opened with, and
+-- each account's entries, account by account.
 unfoldable pub journal_on : List ℕ → ExportFields → List ℕ
 journal_on day e =
     names_words e.genesis.members

@@ -5,7 +5,7 @@ use Rattle.pay_book.specs.Rows.{five_to_1_one_to_3, four_numbers, four_payments,
 use Rattle.pay_desk.specs.Words.{end_of_line}
 use Rattle.pay_audit.specs.Export.{ExportFields}
 
--- In one value account 0 pays 30 to 1, 50 to 2, 40 to 1 and 20 to 2, of which the last isn't
+-- In one value account 0 pays 30 to 1, 50 to 2, 40 to 1 and 20 to 2; the last payment isn't
 -- covered. Account 1 pays 30 to 0. In one value account 3 pays 5 to 1, and 1 to itself, which is
 -- void.
 abbrev pub worked_export : ExportFields

@@ -1,4 +1,4 @@
--- Statements by an export: what a desk answers, of the book that the export's lists allow.
+-- Statements of an export: what a desk answers, for the ledger that the export's lists allow.
 use Rattle.std.specs.Prelude.{ℕ, nat_lt, List, slice_index, Option, Some, None, option_and_then}
 use Rattle.std.specs.Prelude.{if◌then◌else◌}
 use Rattle.std.specs.List.{flat_map, range_with_len}
@@ -26,6 +26,6 @@ unfoldable pub statement_in : ExportFields → ℕ → List ℕ
 statement_in e account =
     statement_words account (lines_in e account) (slice_index (book_of e).balances account)
 
--- those of all accounts, in their order
+-- the statements of all accounts, in their order
 abbrev pub statements_in : ExportFields → List ℕ
 statements_in e = flat_map (statement_in e) (range_with_len 0 e.genesis.members)

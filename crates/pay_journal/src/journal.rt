@@ -1,12 +1,14 @@
 //! The settled payments of an export as a journal.
 
-ghost use Rattle.std.specs.Prelude.{◌≡◌, ◌++◌, ◌<◌, IfOk, OnOk};
+ghost use Rattle.std.specs.Prelude.{IfOk, IfSome, IfNone, ◌≡◌, ◌++◌, ◌<◌, OnOk, codes};
 ghost use Rattle.std.specs.List.{enumerate_from, flat_map, range_with_len};
+ghost use Rattle.jiff.specs.Types.{Date as PlainDate};
 ghost use Rattle.pay_audit.specs.Verdict.{book_of};
-ghost use Rattle.pay_journal.specs.Journal.{declared_words, account_transactions, entry_name};
-ghost use Rattle.pay_journal.specs.Journal.{transaction_words};
-ghost use Rattle.pay_journal.specs.Journal.{journal_of, names_words, opening_posting};
-ghost use Rattle.pay_journal.specs.Journal.{opening_words, posting_words, title_words};
+ghost use Rattle.pay_journal.specs.Journal.{IsDateWord, declared_words, account_transactions};
+ghost use Rattle.pay_journal.specs.Journal.{entry_name, transaction_words, journal_of, names_words};
+ghost use Rattle.pay_journal.specs.Journal.{opening_posting, opening_words, posting_words};
+ghost use Rattle.pay_journal.specs.Journal.{title_words, journal_on};
+ghost use Rattle.pay_journal.specs.Rows.{worked_export, worked_journal};
 
 use crate::statements::lines_of;
 use jiff::civil::Date;
@@ -16,9 +18,30 @@ use pay_pending::WaitingBook;
 use pay_text::{push_number, push_word};
 use std::alloc::{AllocError, Global};
 
-// A journal takes one export: a second repeats the same transactions, or is of another book. Its
-// date is today's unless `--date` says another.
-/// The journal of an export, each transaction on this date.
+// The first year that the program ledger supports.
+const FIRST_YEAR: i16 = 1400;
+
+/// Returns the date that `word` is, as YYYY-MM-DD, if journals can have it.
+// promise: statements of exports
+pub fn date_named(alloc: Global, word: &str) -> Result<Option<Date>, AllocError>
+    ensures date { IfOk result (λ named. IfSome named (IsDateWord word.now)) }
+    ensures none { IfOk result (λ named.
+        IfNone named ((date : PlainDate) → ¬ (IsDateWord word.now date))) }
+{
+    let Ok(date) = word.parse::<Date>() else {
+        return Ok(None);
+    };
+    let text = date.to_string(alloc)?;
+    if text.as_str() == word && date.year() >= FIRST_YEAR {
+        Ok(Some(date))
+    } else {
+        Ok(None)
+    }
+}
+
+// A journal has one export. A second export repeats its transactions, or belongs to another group.
+// The date is today's unless `--date` gives another.
+/// Returns the journal of `export`, with `date` for each transaction.
 #[tactic(auto, unfolding(crate::specs::Journal::journal_on))]
 // promise: statements of exports
 pub fn journal_text(alloc: Global, export: &Export, date: Date) -> Result<Vec<u8>, AllocError>
@@ -37,7 +60,7 @@ pub fn journal_text(alloc: Global, export: &Export, date: Date) -> Result<Vec<u8
     Ok(text)
 }
 
-// The names of all accounts, and of that which opening balances come from.
+// Appends the names of all accounts, and of the account that opening balances come from.
 fn push_names(out: &mut Vec<u8>, members: u16) -> Result<(), AllocError>
     ensures { OnOk result (out.new.items ≡ out.old.items ++ names_words members) }
 {
@@ -56,7 +79,7 @@ fn push_declared(out: &mut Vec<u8>, account: u16) -> Result<(), AllocError>
     push_word(out, "\n")
 }
 
-// What all accounts opened with.
+// Appends what all accounts opened with.
 #[tactic(auto, unfolding(crate::specs::Journal::opening_words))]
 fn push_opening(out: &mut Vec<u8>, day: &str, export: &Export) -> Result<(), AllocError>
     ensures { OnOk result (out.new.items ≡ out.old.items ++ opening_words day.now export.now) }
@@ -79,7 +102,8 @@ fn push_openings(out: &mut Vec<u8>, export: &Export) -> Result<(), AllocError>
     Ok(())
 }
 
-// What settled of an account's own entries, by a book of the export's lists.
+// Appends what settled of an account's own entries, according to `book`, the ledger of the export's
+// lists.
 #[tactic(auto, unfolding(crate::specs::Journal::account_transactions))]
 fn push_entries<B: Settle>(
     alloc: Global,
@@ -133,7 +157,7 @@ fn push_entry(
     }
 }
 
-// The first line of a transaction.
+// Appends the first line of a transaction.
 #[tactic(auto, unfolding(crate::specs::Journal::title_words))]
 fn push_title(
     out: &mut Vec<u8>,
@@ -180,3 +204,9 @@ fn push_posting(out: &mut Vec<u8>, sign: &str, account: u16, amount: u64) -> Res
     push_number(out, amount)?;
     push_word(out, "\n")
 }
+
+/// States the journal of an example with several payments in one value, one that waits, and a void
+/// one.
+pub fn journal_by_hand()
+    ensures { journal_on (codes "2026-01-31") worked_export ≡ worked_journal }
+{}

@@ -1,5 +1,5 @@
-//! What people and their tools read of a member's export: statements as a desk answers them, and a
-//! journal for programs that keep books. All of it follows from the export's opening balances and
+//! What people and their tools read from a member's export: statements as a desk answers them, and
+//! a journal for accounting programs. All of it follows from the export's opening balances and
 //! lists.
 //!
 //! ```
@@ -8,11 +8,8 @@
 //! ```
 #![tactic(auto)]
 
-mod dates;
 mod journal;
-pub mod rows;
 mod statements;
 
-pub use dates::date_named;
-pub use journal::journal_text;
+pub use journal::{date_named, journal_text};
 pub use statements::{account_named, statement_text, statements_text};

@@ -1,4 +1,4 @@
-//! Statements by an export.
+//! Statements of an export.
 
 ghost use Rattle.std.specs.Prelude.{◌≡◌, ◌++◌, ◌<◌, IfOk, IfSome, OnOk};
 ghost use Rattle.pay_audit.specs.Verdict.{book_of};
@@ -13,7 +13,7 @@ use pay_pending::WaitingBook;
 use pay_text::number;
 use std::alloc::{AllocError, Global};
 
-/// The account that a word names, if it is a number and the export has that account.
+/// Returns the account that `word` names, if it is a number and the export has that account.
 // promise: statements of exports
 pub fn account_named(export: &Export, word: &[u8]) -> Option<u16>
     ensures value { result ≡ account_named export.now word.now }
@@ -27,7 +27,7 @@ pub fn account_named(export: &Export, word: &[u8]) -> Option<u16>
     }
 }
 
-/// An account's statement, as the desk of a member that took the same answers it.
+/// Returns the statement of `account`, as the desk of a member with these lists answers it.
 // promise: statements of exports
 pub fn statement_text(alloc: Global, export: &Export, account: u16) -> Result<Vec<u8>, AllocError>
     requires { account < export.now.genesis.members }
@@ -39,7 +39,7 @@ pub fn statement_text(alloc: Global, export: &Export, account: u16) -> Result<Ve
     Ok(text)
 }
 
-/// The statements of all accounts, one after the other.
+/// Returns the statements of all accounts of `export`, one after the other.
 // promise: statements of exports
 pub fn statements_text(alloc: Global, export: &Export) -> Result<Vec<u8>, AllocError>
     ensures { IfOk result (λ texts. texts.items ≡ statements_in export.now) }
@@ -65,12 +65,12 @@ fn push_account<B: Settle>(
     ensures { OnOk result (out.new.items ≡ out.old.items ++ statement_in export.now account) }
 {
     let lines = lines_of(alloc, export, book, account)?;
-    // the limits of a genesis, on which the proof stands: the call does nothing
+    // for the proof, the limits of a genesis: the call does nothing
     export.genesis().members();
     push_statement(out, account, lines.as_slice(), book.balance(account))
 }
 
-// What settled on an account, by a book of the export's lists.
+// Returns what settled on `account`, according to `book`, the ledger of the export's lists.
 pub(crate) fn lines_of<B: Settle>(
     alloc: Global,
     export: &Export,

@@ -29,7 +29,7 @@ use Rattle.pay_audit.specs.Exporting.{export_of}
 use Rattle.pay_audit.specs.Laws.{AgreeWith, Agreeing, HasRightBalances, HasRightFront, logs_of}
 use Rattle.pay_audit.specs.Said.{CleanIsJudged, Each, EachTwo, IsClean}
 use Rattle.pay_audit.specs.Verdict.{verdict_of}
-use Rattle.pay_audit.specs.declared.verdict.Verdict.TheVariants.{Clean}
+use Rattle.pay_audit.specs.declared.auditing.Verdict.TheVariants.{Clean}
 use Rattle.pay_laws.specs.Moments.{IsCorrectMember}
 
 -- ---- a list for each account

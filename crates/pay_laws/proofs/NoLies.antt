@@ -4,8 +4,8 @@ use Rattle.std.specs.List.{All, count_by}
 use Rattle.std.proofs.lemmas.Bool.{and_from}
 use Rattle.std.proofs.lemmas.Grind.{common_steps}
 use Rattle.std.proofs.lemmas.List.Elements.{All-contains, Contains-append_left, Contains-push}
-use Rattle.pay_frame.specs.declared.kind.Kind.{Kind}
-use Rattle.pay_frame.specs.declared.kind.Kind.TheVariants.{Send, Echo, Ready, Want}
+use Rattle.pay_frame.specs.declared.body.Kind.{Kind}
+use Rattle.pay_frame.specs.declared.body.Kind.TheVariants.{Send, Echo, Ready, Want}
 use Rattle.pay_frame.specs.Frame.{BodyFields}
 use Rattle.pay_echo.specs.Broadcast.{Group}
 use Rattle.pay_channel.specs.Prefix.{IsPrefix}
@@ -14,7 +14,7 @@ use Rattle.pay_channel.specs.Asked.{is_send_kind}
 use Rattle.pay_channel.specs.SentLaws.{is_echo, is_ready_kind, is_said}
 use Rattle.pay_channel.specs.Taken.{taken_bodies}
 use Rattle.pay_channel.specs.TakenLaws.{TakenFromHere, TakenGrows, TakenIsFrom}
-use Rattle.pay_member.specs.declared.lie.Lie.{Lie}
+use Rattle.pay_member.specs.declared.ledger.Lie.{Lie}
 use Rattle.pay_member.specs.Lies.{HasTold}
 use Rattle.pay_laws.specs.Once.{HasVotesOnce}
 use Rattle.pay_laws.proofs.Once.{once_in_prefix}

@@ -6,7 +6,7 @@ use Rattle.std.specs.Prelude.{slice_get}
 use Rattle.std.proofs.lemmas.Bool.{cases_eq, ne_eqb}
 use Rattle.std.proofs.lemmas.Grind.{common_steps}
 use Rattle.std.proofs.lemmas.List.Sums.{length-filter, sum_by-append}
-use Rattle.pay_frame.specs.declared.kind.Kind.TheVariants.{Send}
+use Rattle.pay_frame.specs.declared.body.Kind.TheVariants.{Send}
 use Rattle.pay_frame.specs.Frame.{BodyFields}
 use Rattle.pay_channel.specs.Prefix.{IsPrefix}
 use Rattle.pay_channel.specs.History.{body_of}

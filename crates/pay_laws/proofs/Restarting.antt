@@ -25,25 +25,25 @@ through_more :
 through_more w i history [] more = refl
 through_more w i history (s ∷ steps) more = through_more w i (history_with w i history s) steps more
 
-steps_none : (w : Setting) (i : ℕ) → history_by_steps w [] i ≡ []
+pub steps_none : (w : Setting) (i : ℕ) → history_by_steps w [] i ≡ []
 unfolding history_by_steps
 steps_none w i = refl
 
-steps_more : (w : Setting) (steps : List Step) (s : Step) (i : ℕ) → history_by_steps w (steps ++ s ∷ []) i ≡ history_with w i (history_by_steps w steps i) s
+pub steps_more : (w : Setting) (steps : List Step) (s : Step) (i : ℕ) → history_by_steps w (steps ++ s ∷ []) i ≡ history_with w i (history_by_steps w steps i) s
 unfolding history_by_steps
 steps_more w steps s i = through_more w i [] steps (s ∷ [])
 
-restart_here : (w : Setting) (k i kept : ℕ) (history : List Event) → k ≡ i → history_with w i history (Restarts k kept) ≡ take kept history
+pub restart_here : (w : Setting) (k i kept : ℕ) (history : List Event) → k ≡ i → history_with w i history (Restarts k kept) ≡ take kept history
 restart_here w k i kept history is = ap (λ (b : Bool). cond b (take kept history) history) (eq_eqb is) where
   eq_eqb : k ≡ i → eqb k i ≡ true
   eq_eqb same = grind arith
 
-restart_elsewhere : (w : Setting) (k i kept : ℕ) (history : List Event) → k ≢ i → history_with w i history (Restarts k kept) ≡ history
+pub restart_elsewhere : (w : Setting) (k i kept : ℕ) (history : List Event) → k ≢ i → history_with w i history (Restarts k kept) ≡ history
 restart_elsewhere w k i kept history other = ap (λ (b : Bool). cond b (take kept history) history) (ne_eqb k i other)
 
 -- ---- fair steps
 
-fair_front : (w : Setting) (steps more : List Step) → AreFair w (steps ++ more) → AreFair w steps
+pub fair_front : (w : Setting) (steps more : List Step) → AreFair w (steps ++ more) → AreFair w steps
 fair_front w steps more are = record {
   each = λ before s after is.
       are.each before s (after ++ more) (ap (λ (l : List Step). l ++ more) is ∙ append_assoc before (s ∷ after) more);

@@ -1,4 +1,4 @@
--- The group's book, by exports of members of whom some are faulty, at moments of some actions.
+-- The group ledger of exports of members, some of them faulty, at moments of some actions.
 use Rattle.std.specs.Prelude.{◌≡◌, ℕ, ◌<◌, Bool, false, List}
 use Rattle.pay_channel.specs.Prefix.{IsPrefix}
 use Rattle.pay_link.specs.Genesis.{GenesisFields, IsGenesis}
@@ -15,14 +15,14 @@ use Rattle.pay_audit.specs.Said.{Each}
 use Rattle.pay_group.specs.Book.{IsGroupBook}
 use Rattle.pay_laws.specs.Moments.{IsCorrectMember}
 
--- An export of a correct member is what it shows at a moment of these actions. Of those of faulty
--- members nothing is known.
+-- An export of a correct member is what it shows at a moment of these actions. Nothing is known
+-- about those of faulty members.
 abbrev pub AreGroupsExports : GenesisFields → (ℕ → Bool) → List Action → List ExportFields → Type 0
 AreGroupsExports g faulty actions exports =
     Each (λ e. faulty e.member ≡ false → (m : MemberFields) × IsCorrectMember g faulty actions m
     × (e ≡ export_of m)) exports
 
--- Exports of a group with few faulty members, and the book that they have.
+-- Exports of a group with few faulty members, and the group ledger that they have.
 pub record HasBook (g : GenesisFields) (faulty : ℕ → Bool) (actions : List Action)
     (exports : List ExportFields) (b : ExportFields) : Type 0 where
   pub genesis : IsGenesis g
@@ -32,14 +32,15 @@ pub record HasBook (g : GenesisFields) (faulty : ℕ → Bool) (actions : List A
   pub book : IsGroupBook exports b
   pub of_group : b.genesis ≡ g
 
--- a correct member whose list of this account begins so, at a moment of the actions
+-- a correct member with this list as a prefix of its list of this account, at a moment of the
+-- actions
 pub record IsListOfCorrect (g : GenesisFields) (faulty : ℕ → Bool) (actions : List Action)
     (account : ℕ) (list : List (List ℕ)) : Type 0 where
   pub member : MemberFields
   pub is : IsCorrectMember g faulty actions member
   pub begins : IsPrefix list (lists_of (export_of member) account)
 
--- each list of the book is how that of a correct member begins, whatever the actions
+-- each list of the group ledger is a prefix of a correct member's, whatever the actions
 abbrev pub BookIsOfCorrectMembers : Type 0
 BookIsOfCorrectMembers =
     (g : GenesisFields) (faulty : ℕ → Bool) (actions : List Action) (exports : List ExportFields)
@@ -47,8 +48,8 @@ BookIsOfCorrectMembers =
     → HasBook g faulty actions exports b → (account : ℕ) → account < g.members
     → IsListOfCorrect g faulty actions account (lists_of b account)
 
--- What the book has settled, every correct member has once all was taken: actions of which none is
--- a forged frame.
+-- Every correct member has settled what the group ledger has, after everything was accepted, for
+-- actions without a forged frame.
 abbrev pub BookIsSettledByAll : Type 0
 BookIsSettledByAll =
     (g : GenesisFields) (faulty : ℕ → Bool) (actions : List Action) (exports : List ExportFields)

@@ -1,4 +1,4 @@
--- A member that loses what it took after a beginning of its history.
+-- A member that loses what it accepted after a prefix of its history.
 use Rattle.std.specs.Prelude.{◌≡◌, ◌≢◌, ℕ, ◌<◌, ◌==◌, not, List, ◌++◌, length, ⊤}
 use Rattle.std.specs.List.{All, filter}
 use Rattle.pay_channel.specs.History.{Event, out}
@@ -10,16 +10,16 @@ use Rattle.pay_world.specs.Genuine.{AreGenuine}
 abbrev pub elsewhere : ℕ → List Action → List Action
 elsewhere k actions = filter (λ d. not (member_of d == k)) actions
 
--- If it is a frame of member k, brought to a correct member, it is among all that k sent by this
+-- A frame of member k that a correct member receives is among all that k sent according to this
 -- history.
 abbrev pub IsAmong : Setting → ℕ → List Event → Action → Type 0
 IsAmong w k history (Asks j v) = ⊤
 IsAmong w k history (Brings j from number body) =
     from ≡ k → IsCorrect w j → number < length (out (group_at w k) history)
 
--- Member k has what it took by the first actions, and lost what it took by the later ones. The
--- actions without those that it lost have no forged frame if there was none before, nobody else has
--- another history by them, and k has what it kept.
+-- Member k has what it accepted by the first actions, and lost what it accepted by the later ones.
+-- The actions without the lost ones have no forged frame if there was none before. They change
+-- nobody else's history, and k has what it kept.
 abbrev pub ForgettingIsNoLie : Type 0
 ForgettingIsNoLie =
     (w : Setting) (first later : List Action) (k : ℕ) → AreGenuine w (first ++ later)

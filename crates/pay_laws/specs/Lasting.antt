@@ -1,4 +1,4 @@
--- The exports of a group whose correct members start again, each with a beginning of its history.
+-- The exports of a group with correct members that start again, each with a prefix of its history.
 use Rattle.std.specs.Prelude.{◌≡◌, ℕ, Bool, List, map, slice_get, Some}
 use Rattle.pay_channel.specs.Prefix.{IsPrefix}
 use Rattle.pay_link.specs.Genesis.{GenesisFields, IsGenesis}
@@ -8,9 +8,10 @@ use Rattle.pay_world.specs.Setting.{setting_by, IsCorrect, HasFewFaulty}
 use Rattle.pay_laws.specs.Restarts.{Step, AreFair, history_by_steps}
 use Rattle.pay_audit.specs.Exporting.{export_of}
 use Rattle.pay_audit.specs.Verdict.{verdict_of}
-use Rattle.pay_audit.specs.declared.verdict.Verdict.TheVariants.{Clean}
+use Rattle.pay_audit.specs.declared.auditing.Verdict.TheVariants.{Clean}
 
--- A correct member of the group, with what it took until some moment of these steps and never lost.
+-- A correct member of the group, with what it accepted until some moment of these steps and never
+-- lost.
 pub record IsLastingMember (g : GenesisFields) (faulty : ℕ → Bool) (steps : List Step)
     (m : MemberFields) : Type 0 where
   pub genesis : m.genesis ≡ g

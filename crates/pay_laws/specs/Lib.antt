@@ -6,3 +6,7 @@ pub mod Lasting
 pub mod Once
 pub mod Worlds
 pub mod Books
+pub mod Claims
+pub mod Challenges
+pub mod Released
+pub mod CheckExamples

@@ -9,10 +9,10 @@ use Rattle.pay_world.specs.Actions.{Action, history_by}
 use Rattle.pay_world.specs.Genuine.{AreGenuine}
 use Rattle.pay_audit.specs.Exporting.{export_of}
 use Rattle.pay_audit.specs.Verdict.{verdict_of}
-use Rattle.pay_audit.specs.declared.verdict.Verdict.TheVariants.{Clean}
+use Rattle.pay_audit.specs.declared.auditing.Verdict.TheVariants.{Clean}
 
--- A correct member of the group, at a moment of these actions: it has taken what came to it until
--- then. The queries in its history are no actions, and may be any.
+-- A correct member of the group, at a moment of these actions: it has accepted what came to it
+-- until then. The queries in its history are no actions, and may be any.
 pub record IsCorrectMember (g : GenesisFields) (faulty : ℕ → Bool) (actions : List Action)
     (m : MemberFields) : Type 0 where
   pub genesis : m.genesis ≡ g
@@ -21,7 +21,7 @@ pub record IsCorrectMember (g : GenesisFields) (faulty : ℕ → Bool) (actions 
   pub moment : IsPrefix until actions
   pub took : events m.history ≡ history_by (setting_by g faulty) until m.keys.own
 
--- Whichever correct members export, the same one several times too, and whenever each does: nothing
+-- Whichever correct members export, even one of them several times, and whenever each does: nothing
 -- is wrong.
 abbrev pub ExportsAreClean : Type 0
 ExportsAreClean =

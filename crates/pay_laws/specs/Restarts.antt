@@ -1,5 +1,4 @@
--- What happens to the members of a group where some start again, each with a beginning of its
--- history.
+-- What happens to the members of a group if some start again, each with a prefix of its history.
 use Rattle.std.specs.Prelude.{◌≡◌, ℕ, ◌==◌, if◌then◌else◌, List, [], ◌∷◌, ◌++◌, take, ⊤}
 use Rattle.std.specs.List.{All}
 use Rattle.pay_channel.specs.Prefix.{IsPrefix}
@@ -11,7 +10,7 @@ use Rattle.pay_world.specs.Genuine.{IsGenuineIn, AreGenuine}
 use Rattle.pay_world.specs.Headline.{Headline}
 use Rattle.pay_laws.specs.Forgetting.{IsAmong}
 
--- An action happens, or a member starts again with so many of its events, and lost the later ones.
+-- An action happens, or a member starts again with a count of its events and lost the later ones.
 pub data Step : Type 0 where
   Happens : Action → Step
   Restarts : ℕ → ℕ → Step
@@ -40,22 +39,22 @@ IsFair w before (Happens d) = IsGenuineIn w (history_by_steps w before) d
 IsFair w before (Restarts k kept) =
     IsCorrect w k → All (IsStepAmong w k (take kept (history_by_steps w before k))) before
 
--- each step is, after those before it
+-- each step is fair, after those before it
 pub record AreFair (w : Setting) (steps : List Step) : Type 0 where
   pub each :
       (before : List Step) (s : Step) (after : List Step) → steps ≡ before ++ s ∷ after
       → IsFair w before s
 
--- There are actions, none of them a forged frame, by which each member has the history that it has
--- by these steps.
+-- There are actions, none of them a forged frame, that give each member its history after these
+-- steps.
 abbrev pub RestartIsNoLie : Type 0
 RestartIsNoLie =
     (w : Setting) (steps : List Step) → AreFair w steps
     → (actions : List Action) × AreGenuine w actions
     × ((i : ℕ) → history_by w actions i ≡ history_by_steps w steps i)
 
--- The headline holds of such actions, none of them a forged frame, and each beginning of a history
--- that nobody lost is the one by a beginning of them.
+-- The safety theorem holds for such actions, none of them a forged frame. Each prefix of a history
+-- that nobody lost is the one after a prefix of them.
 abbrev pub HeadlineOfRestarts : Type 0
 HeadlineOfRestarts =
     (w : Setting) (opening : List ℕ) (steps : List Step) → HasFewFaulty w → AreFair w steps
@@ -64,7 +63,7 @@ HeadlineOfRestarts =
     × ((i : ℕ) (history : List Event) → IsPrefix history (history_by_steps w steps i)
     → (one : List Action) × IsPrefix one actions × (history_by w one i ≡ history))
 
--- A correct member remembers, however often and whichever members start again.
+-- A correct member keeps its state, however often and whichever members start again.
 abbrev pub CorrectMembersRemember : Type 0
 CorrectMembersRemember =
     (w : Setting) (steps : List Step) → HasFewFaulty w → AreFair w steps

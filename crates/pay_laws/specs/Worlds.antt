@@ -11,7 +11,7 @@ use Rattle.pay_world.specs.World.{IsWorld, WorldFields, member_in}
 use Rattle.pay_world.specs.Run.{IsWorldAfter}
 use Rattle.pay_audit.specs.Exporting.{export_of}
 use Rattle.pay_audit.specs.Verdict.{verdict_of}
-use Rattle.pay_audit.specs.declared.verdict.Verdict.TheVariants.{Clean}
+use Rattle.pay_audit.specs.declared.auditing.Verdict.TheVariants.{Clean}
 
 -- a member of the world after the first of these events
 pub record IsOfWorld (g : GenesisFields) (keys : List KeyFields) (l : LiarFields)
@@ -26,7 +26,7 @@ pub record IsOfWorld (g : GenesisFields) (keys : List KeyFields) (l : LiarFields
   pub member : member_in world number ≡ Some m
 
 -- There is a world after all of the events, so none of them is a forged frame. Whichever members
--- export, the same one several times too, and after however many of the events each does: nothing
+-- export, even one of them several times, and after however many of the events each does: nothing
 -- is wrong.
 abbrev pub WorldExportsAreClean : Type 0
 WorldExportsAreClean =

@@ -1,7 +1,7 @@
 -- When no whole frame is in front of a cutter: after it answered that there is none, and after a fault.
 use Rattle.std.proofs.Common.{◌≡◌, ℕ, List, sym, ◌∙◌, subst, inl, inr, None, Ok, Err}
 use Rattle.std.proofs.lemmas.Option.{none-some}
-use Rattle.pay_frame.specs.declared.fault.FrameFault.{FrameFault}
+use Rattle.pay_frame.specs.declared.reading.FrameFault.{FrameFault}
 use Rattle.pay_frame.specs.Reading.{IsProperBeginning}
 use Rattle.pay_frame.specs.Cutting.{Held, HandsOut, IsDrained}
 

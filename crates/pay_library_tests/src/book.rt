@@ -1,9 +1,7 @@
-//! Books over lists held in memory: worked examples, a row of debts and drawn lists, each on both.
+//! Both books over lists held in memory, which are drawn.
 
 mod both;
 mod drawn;
 mod draws;
 mod ledger;
-pub(crate) mod lists;
-mod rows;
-mod tests;
+mod lists;

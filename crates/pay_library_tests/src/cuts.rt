@@ -49,11 +49,6 @@ const FOUR: &[Piece] = &[
 
 const RUNS: &[Run] = &[
     Run {
-        stream: &[],
-        steps: &[],
-        end: Ok(()),
-    },
-    Run {
         stream: FOUR,
         steps: &[
             Step::Feed(0, 1259, 1259),
@@ -94,21 +89,6 @@ const RUNS: &[Run] = &[
     },
     Run {
         stream: FOUR,
-        steps: &[Step::Feed(0, 1, 1)],
-        end: Err(FrameFault::Truncated),
-    },
-    Run {
-        stream: FOUR,
-        steps: &[Step::Feed(0, 55, 55), Step::Wait],
-        end: Err(FrameFault::Truncated),
-    },
-    Run {
-        stream: FOUR,
-        steps: &[Step::Feed(0, 56, 56), Step::Frame(0, 56)],
-        end: Ok(()),
-    },
-    Run {
-        stream: FOUR,
         steps: &[Step::Feed(0, 57, 57), Step::Frame(0, 56)],
         end: Err(FrameFault::Truncated),
     },
@@ -139,11 +119,6 @@ const RUNS: &[Run] = &[
         stream: &[(READY_HEAD, 32), ("05", 0)],
         steps: &[Step::Feed(0, 57, 57), Step::Frame(0, 56)],
         end: Err(FrameFault::BadLength),
-    },
-    Run {
-        stream: &[(READY_HEAD, 32), ("003602", 1)],
-        steps: &[Step::Feed(0, 60, 60), Step::Frame(0, 56)],
-        end: Err(FrameFault::BadVersion),
     },
 ];
 

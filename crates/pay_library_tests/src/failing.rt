@@ -1,9 +1,8 @@
 //! A peer's stream over devices that fail: a read or a write of any number, a byte a call.
 
 use crate::streams::{FRAME, TWICE, WANTS, fresh};
-use pay_engine::EngineFault;
+use pay_frame::{EngineFault, Reader, Writer};
 use pay_hmac::HmacSha256;
-use pay_io::{Reader, Writer};
 use pay_member::serve;
 use std::alloc::Global;
 use std::io;

@@ -1,19 +1,18 @@
 //! Tests of the libraries: the plain forms beside those that the program runs, and the calls that
-//! it doesn't make. Each gives what was worked out by hand or by another program.
+//! it doesn't make; and of a member's log over a disk that fails, and below a running node. Each
+//! gives what was worked out by hand or by another program.
 #![tactic(auto)]
 
-#[cfg(test)]
-mod audits;
 #[cfg(test)]
 mod book;
 #[cfg(test)]
 mod cuts;
 #[cfg(test)]
-mod echo;
-#[cfg(test)]
 mod failing;
 #[cfg(test)]
-mod groups;
+mod kept;
+#[cfg(test)]
+mod logs;
 #[cfg(test)]
 mod members;
 #[cfg(test)]
@@ -21,16 +20,8 @@ mod node;
 #[cfg(test)]
 mod peers;
 #[cfg(test)]
-mod records;
-#[cfg(test)]
-mod replays;
-#[cfg(test)]
 mod runs;
-#[cfg(test)]
-mod scripts;
 #[cfg(test)]
 mod streams;
 #[cfg(test)]
 mod tags;
-#[cfg(test)]
-mod values;

@@ -5,10 +5,8 @@ ghost use Rattle.pay_link.specs.Keys.{IsPeer};
 
 use pay_book::PlainBook;
 use pay_echo::PlainInstance;
-use pay_engine::EngineFault;
-use pay_frame::FrameFault;
+use pay_frame::{EngineFault, FrameFault, Reader, Writer};
 use pay_hmac::HmacSha256;
-use pay_io::{Reader, Writer};
 use pay_link::{Genesis, Keys};
 use pay_member::{Member, serve};
 use std::alloc::Global;

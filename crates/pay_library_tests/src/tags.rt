@@ -52,8 +52,7 @@ const PUBLISHED: &[Case] = &[
     },
 ];
 
-/// What Python's `hmac` computes for no key and no text, for keys round the length of a block, and
-/// for texts that end, or whose padding ends, where a block does.
+/// What Python's `hmac` computes for no key and no text, and for keys round the length of a block.
 const COMPUTED: &[Case] = &[
     Case {
         key: &[],
@@ -69,51 +68,6 @@ const COMPUTED: &[Case] = &[
         key: &[7; 65],
         text: &[0xdd; 3],
         tag: "a0237e0573368230e0a3395cd5930254ed26b78d608455dd299db6bc47a3a40f",
-    },
-    Case {
-        key: b"the key of members zero and one.",
-        text: &[0xdd; 0],
-        tag: "e994ef612190298756eb2ba522627d128acd5530a1f3bb57f25be297b94a07a1",
-    },
-    Case {
-        key: b"the key of members zero and one.",
-        text: &[0xdd; 35],
-        tag: "a31b4c3cc2bfa791ec4d6adeccf82749dd51d4640c63f7165595dc43beab4072",
-    },
-    Case {
-        key: b"the key of members zero and two.",
-        text: &[0xdd; 35],
-        tag: "71c64a3814b947d76022cafa51f80765bad8ab79a7efe60d18155541026cf15c",
-    },
-    Case {
-        key: b"the key of members zero and two.",
-        text: &[0xdd; 55],
-        tag: "b99b38ab04308faaf1ff87fd4d23eb1168f15f4649c47c64bece6ce0f4177aca",
-    },
-    Case {
-        key: &[0; 32],
-        text: &[0xdd; 56],
-        tag: "7b583ecdbd91eeff7030108c7f0abb5a69d9705f98b278fea123d874d7e3bc6f",
-    },
-    Case {
-        key: b"the key of members zero and one.",
-        text: &[0xdd; 64],
-        tag: "f103e3f2e14da793daf83e6e1a92b6f83c5643069f01c147db195c9320e0455a",
-    },
-    Case {
-        key: b"the key of members zero and two.",
-        text: &[0xdd; 119],
-        tag: "f7c18bdb7a70ced362eb5fa215add6c2697c6c25bc70ab4f6f5fc2fa2b631126",
-    },
-    Case {
-        key: b"the key of members zero and one.",
-        text: &[0xdd; 120],
-        tag: "9ae90b4170bed27be9a5e8d3b5fbc7c763dee556613cced652fb6ce82bdccb4b",
-    },
-    Case {
-        key: b"the key of members zero and two.",
-        text: &[0xdd; 1048],
-        tag: "c1d058945015b34b84b8130af831428044ce06f55e15388f5a85de16738f9e01",
     },
 ];
 

@@ -10,8 +10,8 @@ use Rattle.pay_link.specs.Keys.{IsPeer, KeyFields, is_peer, key_for}
 use Rattle.pay_link.specs.Opening.{IsTagged, OpenedFields, Opens, judgement, opened_fields, right_tag}
 use Rattle.pay_hmac.specs.Mac.{mac}
 use Rattle.pay_link.specs.Sealing.{sealed_frame, tagged_bytes}
-use Rattle.pay_link.specs.declared.link_fault.LinkFault.{LinkFault}
-use Rattle.pay_link.specs.declared.link_fault.LinkFault.TheVariants.{BadTag, Gap, NotForMe, Repeat, UnknownOwner, UnknownSender}
+use Rattle.pay_link.specs.declared.opened.LinkFault.{LinkFault}
+use Rattle.pay_link.specs.declared.opened.LinkFault.TheVariants.{BadTag, Gap, NotForMe, Repeat, UnknownOwner, UnknownSender}
 
 pub is_peer-Decides : (k : KeyFields) (p : ℕ) → Decides (is_peer k p) (IsPeer k p)
 is_peer-Decides k p =

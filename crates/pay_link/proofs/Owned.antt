@@ -1,6 +1,6 @@
 -- What owning an opened frame keeps.
 use Rattle.std.proofs.Common.{◌≡◌, ◌≢◌, ℕ, ◌<◌, List, length, Ok, refl, sym, ap, ◌∙◌, subst}
-use Rattle.pay_frame.specs.declared.kind.Kind.TheVariants.{Want}
+use Rattle.pay_frame.specs.declared.body.Kind.TheVariants.{Want}
 use Rattle.pay_frame.specs.Frame.{BodyFields, FrameFields, IsFrame, frame_of_parts}
 use Rattle.pay_frame.specs.OneFrame.{IsOneFrame}
 use Rattle.pay_link.specs.Checked.{CheckedFields, IsChecked, IsFor, bytes_of, checked_fields, checked_from, checked_parts}

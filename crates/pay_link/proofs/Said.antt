@@ -8,10 +8,10 @@ use Rattle.pay_link.specs.Json.{Data, value_in}
 use Rattle.pay_link.specs.Files.{IsLeastBad, KeysSaid, SaysKeys, genesis_in, genesis_said, key_at, keys_from, keys_in_file, keys_judged, keys_said, ◌>>=◌}
 use Rattle.pay_link.specs.Genesis.{GenesisFields, genesis_fault}
 use Rattle.pay_link.specs.Keys.{KeyFields, no_key, place_fault}
-use Rattle.pay_link.specs.declared.genesis_fault.GenesisFault.{GenesisFault}
-use Rattle.pay_link.specs.declared.genesis_fault.GenesisFault.TheVariants as genesis
-use Rattle.pay_link.specs.declared.keys_fault.KeysFault.{KeysFault}
-use Rattle.pay_link.specs.declared.keys_fault.KeysFault.TheVariants as keys
+use Rattle.pay_link.specs.declared.genesis.GenesisFault.{GenesisFault}
+use Rattle.pay_link.specs.declared.genesis.GenesisFault.TheVariants as genesis
+use Rattle.pay_link.specs.declared.keys.KeysFault.{KeysFault}
+use Rattle.pay_link.specs.declared.keys.KeysFault.TheVariants as keys
 
 -- the four tests of a genesis in their order
 abbrev tested : Bool → Bool → Bool → Bool → Option GenesisFault

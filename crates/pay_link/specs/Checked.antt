@@ -1,7 +1,7 @@
--- A frame that was opened and is kept, with the key that it was opened under.
+-- A frame that was authenticated and is kept, with the key that authenticated it.
 use Rattle.std.specs.Prelude.{◌≡◌, ◌≢◌, ◌<◌, ℕ, List, length}
 use Rattle.pay_frame.specs.Frame.{BodyFields, FrameFields, IsFrame, frame_bytes}
-use Rattle.pay_frame.specs.declared.kind.Kind.TheVariants.{Want}
+use Rattle.pay_frame.specs.declared.body.Kind.TheVariants.{Want}
 use Rattle.pay_hmac.specs.Mac.{mac}
 use Rattle.pay_link.specs.Keys.{IsPeer, KeyFields, key_for}
 use Rattle.pay_link.specs.Opening.{IsTagged, OpenedFields}
@@ -25,17 +25,17 @@ checked_parts from to number body key = record {
   key = key;
 }
 
--- within a frame's limits, rightly tagged under that key, and no WANT
+-- within a frame's limits, with the right tag under that key, and no WANT
 pub record IsChecked (c : CheckedFields) : Type 0 where
   pub frame : IsFrame c.frame
   pub tagged : IsTagged c.key c.frame
   pub kind : c.frame.body.kind ≢ Want
 
--- what is kept of an opened frame
+-- what is kept of an authenticated frame
 abbrev pub checked_fields : OpenedFields → CheckedFields
 checked_fields o = record { frame = o.frame; key = o.key }
 
--- the frame that a peer seals for the member with these keys
+-- the frame that a peer encodes for the member with these keys
 abbrev pub checked_from : KeyFields → ℕ → ℕ → BodyFields → CheckedFields
 checked_from k from number body = record {
   frame = record {

@@ -1,15 +1,12 @@
 -- The faults of this crate: the number and the name under which each is printed.
 use Rattle.std.specs.Prelude.{ℕ, List, ◌++◌, codes, decimal}
-use Rattle.pay_link.specs.declared.genesis_fault.GenesisFault.{GenesisFault}
-use Rattle.pay_link.specs.declared.genesis_fault.GenesisFault.TheVariants as genesis
-use Rattle.pay_link.specs.declared.keys_fault.KeysFault.{KeysFault}
-use Rattle.pay_link.specs.declared.keys_fault.KeysFault.TheVariants as keys
-use Rattle.pay_link.specs.declared.link_fault.LinkFault.{LinkFault}
-use Rattle.pay_link.specs.declared.link_fault.LinkFault.TheVariants as link
+use Rattle.pay_link.specs.declared.genesis.GenesisFault.{GenesisFault}
+use Rattle.pay_link.specs.declared.genesis.GenesisFault.TheVariants as genesis
+use Rattle.pay_link.specs.declared.keys.KeysFault.{KeysFault}
+use Rattle.pay_link.specs.declared.keys.KeysFault.TheVariants as keys
+use Rattle.pay_link.specs.declared.opened.LinkFault.{LinkFault}
+use Rattle.pay_link.specs.declared.opened.LinkFault.TheVariants as link
 
--- change: a refusal of a frame, as `BadTag`: `specs/Opening.antt`; whether a connection goes
---   on: `pay_peers/specs/Ahead.antt`, `specs/Answering.antt`; models
---   `tests/models/model.py`, `tests/models/damage.py`
 abbrev pub genesis_fault_entry : GenesisFault → ℕ × List ℕ
 genesis_fault_entry genesis.Memory = (0, codes "Memory")
 genesis_fault_entry genesis.BadJson = (1, codes "BadJson")

@@ -1,5 +1,5 @@
 -- What a file of JSON (RFC 8259) says: the value of its text, and the parts of an object that have
--- one shape. A member that nobody asks for doesn't matter, and of several of one name the last
+-- one shape. A member of another name doesn't matter, and of several members of one name the last
 -- counts.
 use Rattle.std.specs.Prelude.{ℕ, List, [], ◌∷◌, Option, Some, None, option_and_then, option_map}
 use Rattle.std.specs.Prelude.{if◌then◌else◌}
@@ -10,22 +10,22 @@ use Rattle.serde_json.specs.Find.{as_array, as_number, as_str, as_u64, get}
 use Rattle.serde_json.specs.Read.{read}
 
 -- the value of bytes that are UTF-8 and a text of JSON
--- page: `value_in`, `key_in`: the value of bytes that are UTF-8 and JSON, by the grammar of
---   `serde_json` within that crate's limits; the 32 bytes of 64 digits, as `hex` reads them
+-- page: `value_in`, `key_in`: the value of bytes that are UTF-8 and JSON, according to the grammar
+--   of `serde_json` and within that crate's limits; the 32 bytes of 64 digits, as `hex` reads them
 unfoldable pub value_in : List ℕ → Option Data
 value_in bytes = if is_utf8 bytes then read bytes else None
 
--- a whole number from 0 that fits 64 bits, as it stands without a point or an exponent
+-- a whole number from 0 that fits 64 bits, written without a point or an exponent
 abbrev pub number_in : Data → Option ℕ
 number_in d = option_and_then as_u64 (as_number d)
 
--- the numbers of a list, if all that is in it are numbers
+-- the numbers of a list, if all its items are numbers
 abbrev pub numbers_in : Items → Option (List ℕ)
 numbers_in no_items = Some []
 numbers_in (item d ds) =
     option_and_then (λ n. option_map (λ ns. n ∷ ns) (numbers_in ds)) (number_in d)
 
--- the texts of a list, if all that is in it are texts
+-- the texts of a list, if all its items are texts
 abbrev pub texts_in : Items → Option (List (List ℕ))
 texts_in no_items = Some []
 texts_in (item d ds) = option_and_then (λ t. option_map (λ ts. t ∷ ts) (texts_in ds)) (as_str d)

@@ -1,4 +1,5 @@
 pub mod Checked
+pub mod Claims
 pub mod Faults
 pub mod Files
 pub mod Fronts

@@ -11,7 +11,7 @@ pair_key x y = replicate 30 0 ++ (min x y ∷ max x y ∷ [])
 abbrev pub test_key : ℕ → ℕ → List ℕ
 test_key own p = if p == own then no_key else pair_key own p
 
--- the keys of one of so many members
+-- the keys of one of `members` members
 abbrev pub test_keys_of : ℕ → ℕ → KeyFields
 test_keys_of members own = record {
   own = own;

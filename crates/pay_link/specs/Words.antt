@@ -1,12 +1,11 @@
 -- The words of a frame that is refused.
 use Rattle.std.specs.Prelude.{List, ℕ, [], ◌++◌, decimal, codes}
-use Rattle.pay_link.specs.declared.link_fault.LinkFault.{LinkFault}
-use Rattle.pay_link.specs.declared.link_fault.LinkFault.TheVariants.{NotForMe, UnknownSender}
-use Rattle.pay_link.specs.declared.link_fault.LinkFault.TheVariants.{UnknownOwner, BadTag, Repeat}
-use Rattle.pay_link.specs.declared.link_fault.LinkFault.TheVariants.{Gap}
+use Rattle.pay_link.specs.declared.opened.LinkFault.{LinkFault}
+use Rattle.pay_link.specs.declared.opened.LinkFault.TheVariants.{NotForMe, UnknownSender}
+use Rattle.pay_link.specs.declared.opened.LinkFault.TheVariants.{UnknownOwner, BadTag, Repeat, Gap}
 use Rattle.pay_link.specs.Faults.{link_fault_number, link_fault_name}
 
--- ` next M`, where a refusal says which number is next
+-- ` next M`, if a refusal says which number is next
 abbrev pub next_words : LinkFault → List ℕ
 next_words NotForMe = []
 next_words UnknownSender = []

@@ -2,12 +2,12 @@ ghost use Rattle.std.specs.Prelude.{◌≡◌, ◌+◌, ◌<◌, ◌^◌, IfOk, 
 ghost use Rattle.std.specs.Prelude.{slice_set};
 ghost use Rattle.pay_link.specs.Fronts.{turn};
 
-use crate::link_fault::LinkFault;
+use crate::opened::LinkFault;
 use std::alloc::{AllocError, Global};
 use std::cmp::Ordering;
 use std::marker::Model;
 
-/// The next number to be taken from each member.
+/// The next number that is expected from each member.
 #[derive(Debug, Drop)]
 pub struct Fronts {
     next: Vec<u64>,
@@ -22,7 +22,7 @@ impl Model for Fronts {
 }
 
 impl Fronts {
-    /// Nothing was taken from anyone.
+    /// Returns fronts at which nothing was accepted from any of `members` members.
     // promise: numbers in turn
     pub fn new(alloc: Global, members: u16) -> Result<Fronts, AllocError>
         ensures { IfOk result (λ fronts. fronts ≡ replicate members 0) }
@@ -31,7 +31,7 @@ impl Fronts {
         Ok(Fronts { next })
     }
 
-    /// The next number from a member.
+    /// Returns the next number that is expected from the member `from`.
     pub fn next(&self, from: u16) -> u64
         requires { from < length self.now }
         ensures { result ≡ slice_index self.now from }
@@ -39,7 +39,7 @@ impl Fronts {
         self.next[usize::from(from)]
     }
 
-    /// Whether this is the next number from a member.
+    /// Returns `Ok` if `number` is the next one from the member `from`, and a fault otherwise.
     // promise: memory; numbers in turn
     pub fn judge(&self, from: u16, number: u64) -> Result<(), LinkFault>
         requires { from < length self.now }
@@ -48,7 +48,7 @@ impl Fronts {
         turn(self.next(from), number)
     }
 
-    /// The next number from a member was taken.
+    /// Counts the next frame from the member `from` as accepted.
     // promise: memory; numbers in turn
     pub fn advance(&mut self, from: u16)
         requires member { from < length self.old }
@@ -59,7 +59,8 @@ impl Fronts {
     }
 }
 
-/// Whether a number is the next one. A lower one was taken before, a higher one leaves a gap.
+/// Returns `Ok` if `number` equals `next`. A lower number was accepted before, and a higher number
+/// leaves a gap.
 pub fn turn(next: u64, number: u64) -> Result<(), LinkFault>
     ensures { result ≡ turn next number }
 {

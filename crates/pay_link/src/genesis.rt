@@ -1,20 +1,94 @@
+//! What a ledger opens with, and how its file is read.
+
 ghost use Rattle.std.specs.Prelude.{◌≡◌, ◌<◌, ◌≤◌, ◌↔◌, ◌⊎◌, IfOk, IsOkUnless, IsTrue, MatchOption};
 ghost use Rattle.std.specs.Prelude.{slice_index, sum};
+ghost use Rattle.pay_link.specs.Faults.{genesis_fault_name, genesis_fault_number};
 ghost use Rattle.pay_link.specs.Files.{genesis_in};
 ghost use Rattle.pay_link.specs.Genesis.{IsGenesis, genesis_fault};
 
-use crate::genesis_fault::GenesisFault;
 use crate::json::{number_at, numbers_at, value_in};
 use crate::limits::GREATEST_TOTAL;
 use pay_frame::MOST_MEMBERS;
 use std::alloc::{AllocError, Global};
+use std::fmt;
 use std::marker::Model;
+use thiserror::Error;
 
-// term: genesis: how many members there are, how many may lie, and what each account opens with
-/// What a ledger begins with: its members, how many of them may lie, and what each account holds. A
-/// member is its number, from 0, and owns the account of that number.
+/// The reason why there is no genesis, in the order of the tests. `Memory` is outside of this
+/// order.
+#[derive(Clone, Copy, Debug, PartialEq, Eq, Error)]
+pub enum GenesisFault {
+    /// There is no memory. The file may be right.
+    Memory,
+    /// The file isn't JSON.
+    BadJson,
+    /// The object lacks a member, or a member has the wrong type.
+    BadShape,
+    /// N is 0, or more than 128.
+    BadCount,
+    /// N isn't more than 3f.
+    BadFaults,
+    /// There isn't one opening for each member.
+    BadOpening,
+    /// The openings together are more than 2^63 - 1.
+    BadTotal,
+}
+
+impl GenesisFault {
+    // promise: order of refusals (number, name)
+    const fn entry(self) -> (u8, &'static str)
+        ensures number { result.0 ≡ genesis_fault_number self }
+        ensures name { result.1.now ≡ genesis_fault_name self }
+    {
+        match self {
+            GenesisFault::Memory => (0, "Memory"),
+            GenesisFault::BadJson => (1, "BadJson"),
+            GenesisFault::BadShape => (2, "BadShape"),
+            GenesisFault::BadCount => (3, "BadCount"),
+            GenesisFault::BadFaults => (4, "BadFaults"),
+            GenesisFault::BadOpening => (5, "BadOpening"),
+            GenesisFault::BadTotal => (6, "BadTotal"),
+        }
+    }
+
+    pub fn number(self) -> u8
+        ensures value { result ≡ genesis_fault_number self }
+    {
+        self.entry().0
+    }
+
+    pub fn name(self) -> &'static str
+        ensures value { result.now ≡ genesis_fault_name self }
+    {
+        self.entry().1
+    }
+}
+
+impl fmt::Display for GenesisFault {
+    ghost use Rattle.std.specs.Prelude.{Some};
+    ghost use Rattle.pay_link.specs.Faults.{genesis_fault_words};
+
+    ghost output = { λ fault. Some (genesis_fault_words fault) };
+
+    fn fmt<W: fmt::Write>(&self, f: &mut fmt::Formatter<W>) -> fmt::Result {
+        write!(f, "{} {}", self.number(), self.name())
+    }
+}
+
+impl From<AllocError> for GenesisFault {
+    ghost use Rattle.pay_link.specs.declared.genesis.GenesisFault.TheVariants.{Memory};
+
+    ghost from_gives = { λ _ e. e ≡ Memory };
+
+    fn from(_error: AllocError) -> GenesisFault {
+        GenesisFault::Memory
+    }
+}
+
+/// What a ledger opens with: its members, how many of them may be faulty, and the opening balance
+/// of each account. A member is its number, from 0, and owns the account of that number.
 ///
-/// Counts come in as 64-bit numbers and are judged before they are cut to 16 bits: 65,537 isn't 1.
+/// Counts are read as 64-bit numbers and are judged before they are cut to 16 bits: 65,537 isn't 1.
 #[derive(Debug, Drop)]
 pub struct Genesis {
     members: u16,
@@ -35,7 +109,8 @@ impl Model for Genesis {
 }
 
 impl Genesis {
-    /// Memory is looked for last.
+    /// Creates a genesis of `members`, `faults` and `opening` balances, or returns its first fault.
+    /// A lack of memory is reported last.
     // promise: order of refusals; files
     pub fn new(
         alloc: Global,
@@ -71,7 +146,7 @@ impl Genesis {
         })
     }
 
-    /// The genesis that a file of JSON says.
+    /// Returns the genesis that `bytes`, a file of JSON, contain.
     // promise: order of refusals; files
     pub fn read(alloc: Global, bytes: &[u8]) -> Result<Genesis, GenesisFault>
         ensures value { (result ≡ genesis_in bytes.now) ⊎ (result ≡ Err GenesisFault.Memory) }
@@ -101,7 +176,7 @@ impl Genesis {
         self.members
     }
 
-    /// How many members may lie.
+    /// Returns how many members may be faulty.
     pub fn faults(&self) -> u16
         ensures value { result ≡ self.now.faults }
         ensures limits { IsGenesis self.now }
@@ -109,7 +184,7 @@ impl Genesis {
         self.faults
     }
 
-    /// What an account begins with.
+    /// Returns the opening balance of `account`.
     pub fn opening(&self, account: u16) -> u64
         requires { account < self.now.members }
         ensures value { result ≡ slice_index self.now.opening account }
@@ -118,7 +193,7 @@ impl Genesis {
         self.opening[usize::from(account)]
     }
 
-    /// Whether both say the same.
+    /// Returns whether `other` is equal.
     pub fn is_same(&self, other: &Genesis) -> bool
         ensures { IsTrue result ↔ (self.now ≡ other.now) }
     {
@@ -127,7 +202,7 @@ impl Genesis {
             && self.opening.as_slice() == other.opening.as_slice()
     }
 
-    /// An equal genesis.
+    /// Returns a copy of the genesis.
     pub fn copy(&self, alloc: Global) -> Result<Genesis, AllocError>
         ensures { IfOk result (λ copy. copy ≡ self.now) }
     {
@@ -140,7 +215,8 @@ impl Genesis {
     }
 }
 
-// What is left of the greatest total is never below zero, so nothing wraps.
+// Returns whether the openings together are at most the greatest total. What is left of that total
+// is never below zero, so nothing wraps.
 fn has_bounded_total(opening: &[u64]) -> bool
     ensures { IsTrue result ↔ (sum opening.now ≤ GREATEST_TOTAL) }
 {

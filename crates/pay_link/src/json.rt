@@ -7,9 +7,9 @@ ghost use Rattle.pay_link.specs.Json as file;
 use serde_json::Value;
 use std::alloc::{AllocError, Global};
 
-// `serde_json` decides what JSON is: of members of one name the last counts; nesting deeper than
-// 127, a number out of a float's range, a lone surrogate and a byte order mark are no JSON.
-/// The value that these bytes are read as, or none.
+// `serde_json` decides what JSON is. Of several members of one name the last counts. Nesting deeper
+// than 127, a number beyond a float's range, a lone surrogate and a byte order mark are no JSON.
+/// Returns the value that `bytes` are read as, or `None`.
 // promise: files
 pub fn value_in(alloc: Global, bytes: &[u8]) -> Result<Option<Value>, AllocError>
     ensures { IfOk result (λ found. option_map view found ≡ file.value_in bytes.now) }
@@ -26,7 +26,7 @@ pub fn value_in(alloc: Global, bytes: &[u8]) -> Result<Option<Value>, AllocError
     }
 }
 
-/// The whole number at this name.
+/// Returns the whole number that `value` has at `name`.
 // promise: files
 pub fn number_at(value: &Value, name: &str) -> Option<u64>
     ensures { result ≡ file.number_at name.now (view value.now) }
@@ -34,7 +34,7 @@ pub fn number_at(value: &Value, name: &str) -> Option<u64>
     value.get(name).and_then(Value::as_u64)
 }
 
-/// The whole numbers of the list at this name.
+/// Returns the whole numbers of the list that `value` has at `name`.
 // promise: files
 pub fn numbers_at(alloc: Global, value: &Value, name: &str) -> Result<Option<Vec<u64>>, AllocError>
     ensures { IfOk result (λ found.
@@ -53,7 +53,7 @@ pub fn numbers_at(alloc: Global, value: &Value, name: &str) -> Result<Option<Vec
     Ok(Some(numbers))
 }
 
-/// The texts of the list at this name.
+/// Returns the texts of the list that `value` has at `name`.
 // promise: files
 pub(crate) fn texts_at<'a>(
     alloc: Global,

@@ -1,34 +1,36 @@
-//! What holds of the definitions. The functions do nothing: their contracts are the laws.
+//! Laws of the definitions. The functions do nothing: their contracts are the laws.
 
-ghost use Rattle.std.specs.Prelude.{◌≡◌, ◌≢◌, ◌*◌, ◌<◌, ◌≤◌, ◌↔◌, ◌⊎◌, ℕ, List, length, sum};
+ghost use Rattle.std.specs.Prelude.{◌≡◌, ◌≢◌, ◌*◌, ◌^◌, ◌<◌, ◌≤◌, ◌↔◌, ◌⊎◌, ℕ, List, length, sum};
 ghost use Rattle.pay_frame.specs.Frame.{BodyFields, FrameFields, IsFrame};
 ghost use Rattle.pay_frame.specs.OneFrame.{IsOneFrame};
-ghost use Rattle.pay_link.specs.Json.{Data, value_in};
 ghost use Rattle.pay_link.specs.Checked.{CheckedFields, IsChecked, IsFor, bytes_of, checked_fields};
 ghost use Rattle.pay_link.specs.Checked.{checked_from};
+ghost use Rattle.pay_link.specs.Claims.{IsNonce, challenge_number, claim_number};
 ghost use Rattle.pay_link.specs.Files.{IsLeastBad, KeysSaid, SaysKeys, genesis_in, genesis_said};
 ghost use Rattle.pay_link.specs.Files.{keys_in_file, keys_judged, keys_said};
 ghost use Rattle.pay_link.specs.Fronts.{turn};
 ghost use Rattle.pay_link.specs.Genesis.{GenesisFields, IsGenesis, genesis_fault};
+ghost use Rattle.pay_link.specs.Json.{Data, value_in};
 ghost use Rattle.pay_link.specs.Keys.{IsPeer, KeyFields, kept_keys, key_for, keys_fault, no_key};
 ghost use Rattle.pay_link.specs.Keys.{place_fault};
 ghost use Rattle.pay_link.specs.Opening.{IsTagged, OpenedFields, Opens, judgement, opened_fields};
 ghost use Rattle.pay_link.specs.Sealing.{sealed_frame};
 ghost use Rattle.pay_link.specs.TestKeys.{test_keys_of};
 
-use crate::genesis_fault::GenesisFault;
-use crate::keys_fault::KeysFault;
+use crate::genesis::GenesisFault;
+use crate::keys::KeysFault;
 use crate::limits::GREATEST_TOTAL;
-use crate::link_fault::LinkFault;
+use crate::opened::LinkFault;
 use pay_frame::{Kind, MOST_MEMBERS};
 
-/// A genesis has no fault exactly where its limits hold.
+/// States that a genesis has no fault exactly if its limits hold.
 // promise: files
 pub fn genesis_limits()
     ensures { (g : GenesisFields) → (genesis_fault g ≡ None) ↔ IsGenesis g }
 {}
 
-/// Each fault of a genesis comes exactly where its own cause holds and no earlier one.
+/// States that each fault of a genesis is reported exactly if its own cause holds and no earlier
+/// one.
 // promise: files
 pub fn genesis_causes()
     ensures count { (g : GenesisFields) → (genesis_fault g ≡ Some GenesisFault.BadCount)
@@ -43,8 +45,8 @@ pub fn genesis_causes()
         × (GREATEST_TOTAL < sum g.opening)) }
 {}
 
-/// A file of a genesis isn't JSON exactly where it has no value, and of a wrong shape exactly where
-/// its value says no genesis.
+/// States the faults of a genesis file. It isn't JSON exactly if it has no value, and has a wrong
+/// shape exactly if its value contains no genesis.
 // promise: files
 pub fn genesis_file_faults()
     ensures json { (bytes : List ℕ) → (genesis_in bytes ≡ Err GenesisFault.BadJson)
@@ -53,8 +55,8 @@ pub fn genesis_file_faults()
         ↔ ((d : Data) × ((value_in bytes ≡ Some d) × (genesis_said d ≡ None))) }
 {}
 
-/// Keys have no fault exactly where they are of a member and as many as the members; each fault
-/// comes exactly where its own cause holds and no earlier one.
+/// States that keys have no fault exactly if they belong to a member and are one for each member.
+/// Each fault is reported exactly if its own cause holds and no earlier one.
 // promise: files
 pub fn keys_causes()
     ensures none { (members : ℕ) (k : KeyFields) → (keys_fault members k ≡ None)
@@ -67,9 +69,10 @@ pub fn keys_causes()
         ↔ ((k.own < members) × (length k.keys ≢ members)) }
 {}
 
-/// A file of keys isn't JSON exactly where it has no value, and of a wrong shape exactly where its
-/// value says no keys. After whose they are and how many, the least place without a key is named;
-/// where there is none, the keys are those that the texts say.
+/// States the faults of a keys file. It isn't JSON exactly if it has no value, and has a wrong
+/// shape exactly if its value contains no keys. After the member's number and the count are tested,
+/// the least place without a key is named. If there is none, the keys are those that the texts
+/// encode.
 // promise: files
 pub fn keys_file_faults()
     ensures json { (members : ℕ) (bytes : List ℕ)
@@ -86,7 +89,7 @@ pub fn keys_file_faults()
         ↔ ((place_fault members said.own (length said.texts) ≡ None) × SaysKeys said k) }
 {}
 
-/// The keys that are kept of a member's are those for its peers, and none for itself.
+/// States that the keys kept of a member are those for its peers, and none for itself.
 // promise: files
 pub fn peers_keys_are_kept()
     ensures members { (k : KeyFields) → length (kept_keys k).keys ≡ length k.keys }
@@ -95,8 +98,8 @@ pub fn peers_keys_are_kept()
     ensures own { (k : KeyFields) → key_for (kept_keys k) k.own ≡ no_key }
 {}
 
-/// A number is taken exactly where it is the next one, a repeat is one below it and a gap one above
-/// it. Both name the next one.
+/// States that a number is accepted exactly if it is the next one. A repeat is a number below the
+/// next one, and a gap a number above it. Both name the next one.
 // promise: numbers in turn
 pub fn numbers_in_turn()
     ensures next { (next number : ℕ) → (turn next number ≡ Ok tt) ↔ (number ≡ next) }
@@ -106,16 +109,16 @@ pub fn numbers_in_turn()
         ↔ ((next < number) × (told ≡ next)) }
 {}
 
-/// A frame opens exactly where it is for the member, from a peer, about a member's broadcast and
-/// rightly tagged, and it is then what was opened.
+/// States that a frame is authenticated exactly if it is for the member, from a peer, about a
+/// member's broadcast and has the right tag. It is then what was opened.
 // promise: opening
 pub fn judgement_opens()
     ensures { (k : KeyFields) (f : FrameFields) (o : OpenedFields) →
         (judgement k f ≡ Ok o) ↔ (Opens k f × (o ≡ opened_fields k f)) }
 {}
 
-/// Each refusal comes exactly where its own cause holds and no earlier one. Whether a number is the
-/// next one isn't asked yet.
+/// States that each refusal comes exactly if its own cause holds and no earlier one. The test of
+/// the next number isn't among them yet.
 // promise: opening
 pub fn judgement_refuses()
     ensures not_for_me { (k : KeyFields) (f : FrameFields) →
@@ -135,8 +138,9 @@ pub fn judgement_refuses()
         judgement k f ≢ Err (LinkFault.Gap next) }
 {}
 
-/// What opens at a member, once it is owned, is for that member; and what is for a member opens
-/// there again, and is then what was owned. Its bytes are that frame and nothing else.
+/// States that a frame which a member authenticated and owns is for that member. A frame that is
+/// for a member is authenticated there again, and is then what was owned. Its bytes are that frame
+/// and nothing else.
 // promise: owned frames
 pub fn owned_opens_again()
     ensures kept { (k : KeyFields) (f : FrameFields) (o : OpenedFields) → IsFrame f
@@ -148,8 +152,8 @@ pub fn owned_opens_again()
     ensures one_frame { (c : CheckedFields) → IsChecked c → IsOneFrame (bytes_of c) c.frame }
 {}
 
-/// A frame that is for a member is what its peer seals for it with that number and body; and what a
-/// peer seals about a member's broadcast is for that member.
+/// States that a frame for a member is what its peer encodes for it with that number and body. What
+/// a peer encodes about a member's broadcast is for that member.
 // promise: owned frames
 pub fn sealed_by_peer()
     ensures kept { (k : KeyFields) (c : CheckedFields) → IsChecked c → IsFor k c
@@ -158,7 +162,8 @@ pub fn sealed_by_peer()
         → body.owner < length k.keys → IsFor k (checked_from k from number body) }
 {}
 
-/// What one of two members seals for the other opens there, where both have one key for each other.
+/// States that what one of two members encodes for the other is authenticated there, if both have
+/// one key for each other.
 // promise: sealing
 pub fn sealed_opens()
     ensures { (a b : KeyFields) (number : ℕ) (body : BodyFields) → IsPeer b a.own
@@ -166,9 +171,21 @@ pub fn sealed_opens()
         → let f = sealed_frame a b.own number body in judgement b f ≡ Ok (opened_fields b f) }
 {}
 
-/// Two members' test keys for each other are the same.
+/// States that the test keys of two members for each other are equal.
 // promise: files
 pub fn shared_test_keys()
     ensures { (members x y : ℕ) → x < members → y < members
         → key_for (test_keys_of members x) y ≡ key_for (test_keys_of members y) x }
+{}
+
+/// States that the numbers of places, of challenges and of claims are apart, and that a claim
+/// answers one nonce alone.
+// promise: comparing
+pub fn claims_are_apart()
+    ensures places { (nonce : ℕ) → 2 ^ 63 ≤ challenge_number nonce }
+    ensures challenges { (nonce other next : ℕ) → IsNonce nonce
+        → challenge_number nonce < claim_number other next }
+    ensures claims { (nonce next : ℕ) → IsNonce nonce → claim_number nonce next < 2 ^ 64 }
+    ensures one { (nonce other next later : ℕ)
+        → claim_number nonce next ≡ claim_number other later → nonce ≡ other }
 {}

@@ -6,8 +6,7 @@ ghost use Rattle.pay_link.specs.Keys.{IsPeer, KeyFields, key_for};
 ghost use Rattle.pay_link.specs.Opening.{judgement, opened_fields};
 ghost use Rattle.pay_link.specs.Sealing.{sealed_frame, tagged_bytes, want_frame};
 
-use crate::checked::Checked;
-use crate::checked_parts::CheckedParts;
+use crate::checked::{Checked, CheckedParts};
 use crate::keys::Keys;
 use crate::limits::WANT_LEN;
 use pay_frame::{Body, HEAD_LEN, Kind, TAG_LEN, head_into, write};
@@ -15,8 +14,7 @@ use pay_hmac::Tagger;
 use pay_hmac::laws::tag_length;
 use std::alloc::{AllocError, Global};
 
-// term: seal: to encode a frame for a peer, with its tag
-/// The bytes of a frame to a peer, with its right tag.
+/// Encodes a frame for the peer `to`, with its right tag.
 // promise: sealing
 pub fn seal<T: Tagger>(
     alloc: Global,
@@ -35,10 +33,10 @@ pub fn seal<T: Tagger>(
     write(alloc, keys.own(), to, number, body, &tag)
 }
 
-/// The same frame by itself, with the key that it was sealed under.
+/// Encodes a frame for the peer `to` by itself, with the key of its tag.
 ///
-/// At the peer, where that has the same key for the sender, its bytes open, and what is owned there
-/// is this very frame. So handing it on within one process takes no tag.
+/// If the peer has this key for the sender, the frame's bytes are authenticated there, and what is
+/// owned there is this very frame. So within one process the frame is passed on without a tag.
 // promise: sealing
 pub fn seal_checked(
     alloc: Global,
@@ -65,9 +63,8 @@ pub fn seal_checked(
     Ok(checked)
 }
 
-// term: WANT: a frame that asks a peer for the frame at one place of its outbound list
-/// The bytes of a WANT to a peer, with its right tag: it asks for the frames from a number on. It
-/// takes no memory.
+/// Encodes a WANT for the peer `to`, with its right tag. It requests the frames from `number` on.
+/// It allocates nothing.
 // promise: memory; sealing
 pub fn want<T: Tagger>(t: &T, keys: &Keys, to: u16, number: u64) -> [u8; WANT_LEN]
     requires { IsPeer keys.now to }
@@ -81,7 +78,7 @@ pub fn want<T: Tagger>(t: &T, keys: &Keys, to: u16, number: u64) -> [u8; WANT_LE
     join_head_and_tag(&head, &tag)
 }
 
-// A head and a tag with no value between them.
+// Returns `head` followed by `tag`, with no value between them.
 fn join_head_and_tag(head: &[u8; HEAD_LEN], tag: &[u8; TAG_LEN]) -> [u8; WANT_LEN]
     ensures { result ≡ head.now ++ tag.now }
 {
@@ -101,10 +98,10 @@ fn tag_for<T: Tagger>(t: &T, keys: &Keys, to: u16, number: u64, body: &Body) -> 
 {
     let mut head = [0; HEAD_LEN];
     head_into(&mut head, keys.own(), to, number, body);
-    t.tag(keys.key(to), &head, body.value())
+    t.tag_at(usize::from(to), keys.key(to), &head, body.value())
 }
 
-// A frame to a peer by itself, with the key that is shared with that peer.
+// Returns a frame for the peer `to` by itself, with the key that is shared with that peer.
 fn checked_for(
     alloc: Global,
     keys: &Keys,
@@ -120,7 +117,7 @@ fn checked_for(
     ensures limits { IfOk result IsChecked }
 {
     tag_length();
-    // a body's limits, on which the proof stands: the call does nothing
+    // for the proof, a body's limits: the call does nothing
     body.value();
     let from = keys.own();
     let body = body.copy(alloc)?;

@@ -18,8 +18,8 @@ module _ {D S : Type 0} (is_known : D → Type 0) (seen : D → List ℕ) (takes
   -- what the log has then
   pub record Grown (old new : Log D) (ps : List (List ℕ)) : Type 0 where
     pub key : new.key ≡ old.key
-    pub works : new.has_failed ≡ old.has_failed
-    pub place : new.place ≡ last_place old.key old.place ps
+    pub works : new.failure ≡ old.failure
+    pub place : new.place ≡ last_place old.place ps
     pub known : is_known old.device → is_known new.device
     pub grown : is_known old.device → seen new.device ≡ seen old.device ++ chunks_of old.key old.place ps
 
@@ -38,9 +38,9 @@ module _ {D S : Type 0} (is_known : D → Type 0) (seen : D → List ℕ) (takes
       record {
         key = rest.key ∙ first.key;
         works = rest.works ∙ first.works;
-        place = rest.place ∙ (λ i. last_place (first.key i) (first.place i) ps);
+        place = rest.place ∙ (λ i. last_place (first.place i) ps);
         known = λ known. rest.known (first.known known);
         grown = λ known. rest.grown (first.known known)
             ∙ (λ i. first.grown known i ++ chunks_of (first.key i) (first.place i) ps)
-            ∙ append_assoc (seen old.log.device) (chunk_of old.log.key old.log.place p) (chunks_of old.log.key (next_place old.log.key old.log.place p) ps);
+            ∙ append_assoc (seen old.log.device) (chunk_of old.log.key old.log.place p) (chunks_of old.log.key (next_place old.log.place p) ps);
       }

@@ -1,7 +1,7 @@
 -- One more moment joins those at which a file might have been left.
 use Rattle.std.proofs.Common.{◌≡◌, ◌⊎◌, inl, inr, ⊎_elim, ℕ, zero, suc, ◌+◌, ◌≤◌, List, [], ◌∷◌, ◌++◌, length, take, drop, refl, sym, ap, ◌∙◌, subst, arith, append_assoc, length-append, take-append-drop}
 use Rattle.std.proofs.lemmas.List.{length-take, length-drop}
-use Rattle.pay_log.specs.declared.lossy.Left.{Left}
+use Rattle.pay_log.specs.declared.device.Left.{Left}
 use Rattle.pay_log.specs.Device.{Elapses, Follows, Torn}
 use Rattle.pay_log.specs.Lossy.{HadBeen}
 

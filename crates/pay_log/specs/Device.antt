@@ -1,15 +1,15 @@
 -- What the calls of a device do to its file, and what a crash may leave between two syncs.
 use Rattle.std.specs.Prelude.{◌≡◌, ◌⊎◌, ℕ, ◌≤◌, List, ◌++◌, length}
 
--- after n bytes were written after a file's end and a crash came: at most so many bytes stand
--- there, of any kind
+-- a crash after `n` bytes were written at a file's end: at most as many bytes stand there, of any
+-- kind
 pub record Torn (n : ℕ) (old new : List ℕ) : Type 0 where
   pub tail : List ℕ
   pub is : new ≡ old ++ tail
   pub no_longer : length tail ≤ n
 
--- What is told of a device's file: whether it is known, what a read returns, and what a crash at
--- this moment may leave.
+-- What is said about a device's file: whether its contents are known, what a read returns, and what
+-- a crash at this moment may leave.
 pub record Storage (D : Type 0) : Type 1 where
   pub is_known : D → Type 0
   pub seen : D → List ℕ
@@ -27,24 +27,24 @@ Stays old new = (c : List ℕ) → new c → old c
 abbrev pub Only : List ℕ → (List ℕ → Type 0) → Type 0
 Only file outcomes = (c : List ℕ) → outcomes c → c ≡ file
 
--- Time goes on: a crash since t might have left what it might have left before, or what it may
--- leave now.
+-- Time passes: a crash since t might have left what it might have left before, or what it may leave
+-- now.
 pub record Elapses (before now : ℕ) (past since : ℕ → List ℕ → Type 0) (may_leave : List ℕ → Type 0)
     : Type 0 where
   pub later : before ≤ now
   pub nothing_else : (t : ℕ) (c : List ℕ) → t ≤ before → since t c → past t c ⊎ may_leave c
   pub keeps : (t : ℕ) (c : List ℕ) → t ≤ before → past t c → since t c
 
--- A crash at any moment since old leaves a file that has P.
+-- A crash at any moment since `old` leaves a file with the property P.
 pub record LeavesOnly {D : Type 0} (moment : D → ℕ) (left_since : D → ℕ → List ℕ → Type 0)
     (old new : D) (P : List ℕ → Type 0) : Type 0 where
   pub later : moment old ≤ moment new
   pub each : (c : List ℕ) → left_since new (moment old) c → P c
-  -- for a run that began earlier
+  -- the case of a run that began earlier
   pub before : (t : ℕ) (c : List ℕ) → t ≤ moment old → left_since new t c → left_since old t c ⊎ P c
 
--- A device was only read: it has what it had, and a crash at any moment leaves what it might have
--- left before.
+-- A device was only read: its contents are unchanged, and a crash at any moment leaves what it
+-- might have left before.
 pub record IsUnchanged {D : Type 0} (is_known : D → Type 0) (seen : D → List ℕ)
     (may_leave : D → List ℕ → Type 0)
     (moment : D → ℕ) (left_since : D → ℕ → List ℕ → Type 0) (old new : D) : Type 0 where

@@ -1,8 +1,8 @@
--- A file that loses what no sync came after, and what crashes might have left of it.
+-- A file that loses the bytes that no sync came after, and what crashes might have left of it.
 use Rattle.std.specs.Prelude.{◌⊎◌, ℕ, List, [], ◌∷◌, ◌++◌, length, drop}
 use mathlib.Core.Logic.{inl, inr}
-use Rattle.pay_log.specs.declared.lossy.Left.{Left}
-use Rattle.pay_log.specs.declared.lossy.LossyFile.{LossyFile}
+use Rattle.pay_log.specs.declared.device.Left.{Left}
+use Rattle.pay_log.specs.declared.device.LossyFile.{LossyFile}
 use Rattle.pay_log.specs.Device.{Torn}
 
 abbrev pub lossy_bytes : LossyFile → List ℕ
@@ -17,7 +17,7 @@ none_left : (past : List Left) (c : List ℕ) → HadBeen (drop (length past) pa
 none_left [] c had = had
 none_left (left ∷ past) c had = none_left past c had
 
--- since the last of them there is what may be left now
+-- since the last of these moments there is only what may be left now
 pub only_now : (past : List Left) (Now : Type 0) (c : List ℕ)
     → Now ⊎ HadBeen (drop (length past) past) c → Now
 only_now past Now c (inl now) = now

@@ -2,44 +2,58 @@ ghost use Rattle.std.specs.Prelude.{◌≡◌};
 ghost use Rattle.pay_log.specs.Faults.{log_fault_name, log_fault_number, fault_of_device};
 ghost use Rattle.pay_log.specs.Faults.{fault_of_sink};
 
-use crate::device::{DeviceFault, DiskFailed};
-use crate::mismatch::Mismatch;
-use crate::sink::Refused;
+use crate::device::DeviceFault;
+use crate::header::Mismatch;
+use crate::obstacle::{LogPart, Obstacle};
+use crate::reading::Refused;
 use std::alloc::{AllocError, AllocFailed};
 use std::fmt;
+use std::io::ErrorKind;
 use thiserror::Error;
 
-/// Why a log isn't opened, read or appended to, in the order in which it is met.
+/// The reason why a log isn't opened, read or appended to, in the order of the tests.
 #[derive(Clone, Copy, Debug, PartialEq, Eq, Error)]
 pub enum LogFault {
-    /// There is no memory to read the log, and nothing has changed: free some, and start again.
+    /// There is no memory to read the log. Nothing has changed: free some memory, and start again.
     Memory,
-    /// A read, a write or a sync failed, or the disk is full: make room, or mend the disk or the
-    /// folder's rights, and start again.
-    Disk,
-    /// Another node has the log, by whatever name: end that node, or leave it alone.
+    /// A read, a write or a sync failed, or the disk is full. Make room, or repair the disk or the
+    /// folder's permissions, and start again.
+    Disk(ErrorKind),
+    /// Another node has the log, by whatever name. End that node, or leave it alone.
     Held,
-    /// The file is no log (`NoLog`), or of another `Version`, `Genesis` or `Member`, or under other
-    /// `Keys`: name the right folder and files.
+    /// The file is no log (`NoLog`), or a log of another `Version`, `Genesis` or `Member`, or under
+    /// other `Keys`. Name the right folder and files.
     Foreign(Mismatch),
-    /// The chunk of the number that follows, from 0, is missing or doesn't fit, and a later one
-    /// stands there: never start the member again, for what it said is lost, unless you have a copy
-    /// of the folder from this very moment.
+    /// The record block of the number that follows, from 0, is missing or doesn't fit, and a later
+    /// block stands there. Never start the member again, for what it said is lost, unless you have
+    /// a copy of the folder from this very moment.
     Damaged(u64),
-    /// The record of the number that follows, from 0, isn't what this program's member has there:
-    /// another version of the program wrote it, so start that one.
+    /// The record of the number that follows, from 0, isn't what this program's member has there.
+    /// Another version of the program wrote the log, so start that version.
     Illegal(u64),
-    /// The log ended cleanly, and isn't as it was then, or it was put back where it was moved out:
-    /// put that very log back, never an older one, and leave it alone.
+    /// The log ended cleanly and has changed since, or it was put back at the place that it was
+    /// moved from. Put that very log back, never an older one, and leave it alone.
     Changed,
-    /// The group has settled for the member what this log doesn't know (`node` alone): never start
-    /// it again in this group. Its balance goes on in the next.
+    /// The group knows more about the member than this log (`node` alone). A newer folder may
+    /// exist elsewhere, so start that one. Only if there is none, the balance continues in the
+    /// next group.
     Forgotten,
-    /// There is no log: mount the disk, or name the right folder, which may be on the machine to
-    /// which the member moved. `--new` is for a new member only.
+    /// There is no log. Mount the disk, or name the right folder, which may be on the machine that
+    /// the member moved to. `--new` is for a new member only.
     Missing,
-    /// There is or was a log where `--new` is to make one: leave out `--new`.
+    /// There is or was a log in the folder that `--new` should make a log in. Leave out `--new`.
     Exists,
+    /// The folder's file name that follows belongs to something else, which is named after it: a
+    /// `link`, a `folder`, a `socket`, a `pipe` or a `device`. It stays unchanged. Find out what it
+    /// is for, move it away, and start again.
+    Blocked(LogPart, Obstacle),
+    /// The log was removed or renamed while its node ran, and the node answers nothing after that.
+    /// Put that very log back, never an older one, and start again.
+    Unnamed,
+    /// This log has no entry, and others took payments or votes of its member (`node` alone): a
+    /// folder of it exists or existed, so start that one. Only if it is gone, its balance goes on
+    /// in the next group.
+    Known,
 }
 
 impl LogFault {
@@ -50,7 +64,7 @@ impl LogFault {
     {
         match self {
             LogFault::Memory => (0, "Memory"),
-            LogFault::Disk => (1, "Disk"),
+            LogFault::Disk(_) => (1, "Disk"),
             LogFault::Held => (2, "Held"),
             LogFault::Foreign(_) => (3, "Foreign"),
             LogFault::Damaged(_) => (4, "Damaged"),
@@ -59,6 +73,9 @@ impl LogFault {
             LogFault::Forgotten => (7, "Forgotten"),
             LogFault::Missing => (8, "Missing"),
             LogFault::Exists => (9, "Exists"),
+            LogFault::Blocked(..) => (10, "Blocked"),
+            LogFault::Unnamed => (11, "Unnamed"),
+            LogFault::Known => (12, "Known"),
         }
     }
 
@@ -86,13 +103,16 @@ impl fmt::Display for LogFault {
         match self {
             LogFault::Foreign(part) => write!(f, " {part}"),
             LogFault::Damaged(number) | LogFault::Illegal(number) => write!(f, " {number}"),
+            LogFault::Blocked(part, obstacle) => write!(f, " {part} {obstacle}"),
             LogFault::Memory
-            | LogFault::Disk
+            | LogFault::Disk(_)
             | LogFault::Held
             | LogFault::Changed
             | LogFault::Forgotten
             | LogFault::Missing
-            | LogFault::Exists => Ok(()),
+            | LogFault::Exists
+            | LogFault::Unnamed
+            | LogFault::Known => Ok(()),
         }
     }
 }
@@ -123,18 +143,18 @@ impl From<DeviceFault> for LogFault {
     fn from(fault: DeviceFault) -> LogFault {
         match fault {
             DeviceFault::Memory => LogFault::Memory,
-            DeviceFault::Disk => LogFault::Disk,
+            DeviceFault::Disk(kind) => LogFault::Disk(kind),
         }
     }
 }
 
-impl From<DiskFailed> for LogFault {
+impl From<ErrorKind> for LogFault {
     ghost use Rattle.pay_log.specs.declared.fault.LogFault.TheVariants.{Disk};
 
-    ghost from_gives = { λ _ e. e ≡ Disk };
+    ghost from_gives = { λ kind e. e ≡ Disk kind };
 
-    fn from(_failed: DiskFailed) -> LogFault {
-        LogFault::Disk
+    fn from(kind: ErrorKind) -> LogFault {
+        LogFault::Disk(kind)
     }
 }
 
@@ -144,7 +164,7 @@ impl From<Refused> for LogFault {
     fn from(refused: Refused) -> LogFault {
         match refused {
             Refused::Memory => LogFault::Memory,
-            Refused::Disk => LogFault::Disk,
+            Refused::Disk(kind) => LogFault::Disk(kind),
             Refused::Record(number) => LogFault::Illegal(number),
         }
     }

@@ -1,61 +1,127 @@
-//! The folder of a member's log. While a node runs, a lock on the log itself keeps every other one
-//! out.
+//! The folder of a member's log, and the log's file on a disk. While a node runs, a lock on the log
+//! keeps every other node out.
 //!
-//! A log that was found is written anew before anything is appended to it, since what a read shows
-//! after a failed write may never have reached the disk. The new file gets the log's name once all
-//! of it is on the disk.
+//! A log that was found is written again before anything is appended to it, since a read after a
+//! failed write may show bytes that never reached the disk. The new file gets the log's name once
+//! all of it is on the disk.
 
-ghost use Rattle.std.specs.Prelude.{◌≡◌, ◌≢◌, ◌<◌, ◌^◌, ℕ, IfOk};
+ghost use Rattle.std.specs.Prelude.{[], ◌≡◌, ◌≢◌, ◌<◌, ◌^◌, ℕ, IfOk};
 ghost use Rattle.pay_log.specs.Ended.{ended_text};
+ghost use Rattle.pay_log.specs.Faults.{is_missing};
 
-use crate::device::Device;
+use crate::chunk::HEADER_LEN;
+use crate::device::{Device, DeviceFault};
 use crate::fault::LogFault;
-use crate::file::LogFile;
-use crate::limits::HEADER_LEN;
+use crate::obstacle::{LogPart, Obstacle};
 use std::alloc::{AllocError, Global};
 use std::fs::{DirBuilder, File, OpenOptions, TryLockError};
-use std::io::{ErrorKind, Write};
-use std::os::unix::fs::{DirBuilderExt, MetadataExt, OpenOptionsExt};
+use std::io::{ErrorKind, Read, Seek, SeekFrom, Write};
+use std::os::unix::fs::{DirBuilderExt, FileExt, MetadataExt, OpenOptionsExt};
 use std::rt::Files;
 use std::{fs, io};
 
-/// For the owner alone.
+// The lock is `flock` on the log itself. It ends with its process. Neither a second name of the log
+// nor the removal of a file beside it lets in two nodes. A new log is locked and synced before it
+// gets its name. The folder and its parent are synced before anything is appended.
+/// An open file, and the count of its bytes that belong to the log. No clause can say what a file
+/// contains.
+#[derive(Drop)]
+pub struct LogFile {
+    file: File,
+    len: u64,
+}
+
+impl LogFile {
+    pub(crate) fn new(file: File, len: u64) -> LogFile {
+        LogFile { file, len }
+    }
+}
+
+impl Device for LogFile {
+    ghost is_known = { λ f. ⊥ };
+
+    ghost seen = { λ f. [] };
+
+    ghost may_leave = { λ f c. ⊥ };
+
+    ghost moment = { λ f. 0 };
+
+    ghost left_since = { λ f t c. ⊥ };
+
+    ghost counts_now = { λ f t c le now. now };
+
+    ghost only_now = { λ f c left. left };
+
+    fn read(&mut self, alloc: Global, from: usize, most: usize) -> Result<Vec<u8>, DeviceFault> {
+        if let Err(error) = self.file.seek(SeekFrom::Start(from as u64)) {
+            return Err(DeviceFault::Disk(error.kind()));
+        }
+        let left = self.len.saturating_sub(from as u64);
+        let mut bytes = Vec::new(alloc);
+        match (&self.file)
+            .take(left.min(most as u64))
+            .read_to_end(&mut bytes)
+        {
+            Ok(_) => Ok(bytes),
+            Err(error) => Err(match error.kind() {
+                ErrorKind::OutOfMemory => DeviceFault::Memory,
+                kind => DeviceFault::Disk(kind),
+            }),
+        }
+    }
+
+    fn append(&mut self, bytes: &[u8]) -> Result<(), ErrorKind> {
+        self.file
+            .write_all_at(bytes, self.len)
+            .map_err(|error| error.kind())?;
+        self.len = self.len.saturating_add(bytes.len() as u64);
+        Ok(())
+    }
+
+    fn sync(&mut self) -> Result<(), ErrorKind> {
+        self.file.sync_data().map_err(|error| error.kind())
+    }
+}
+
+/// The mode of a folder that only its owner may use.
 const FOLDER_MODE: u32 = 0o700;
 
 const FILE_MODE: u32 = 0o600;
 
 const LOG: &str = "log";
 
-/// A log that isn't whole yet.
+/// The name of a log that isn't complete yet.
 const NEW_LOG: &str = "log.new";
 
-/// What was left out of logs behind their last chunk.
+/// The name of the file of bytes found after the last record blocks of logs.
 const DROPPED: &str = "log.dropped";
 
-/// How many bytes the log had when its node ended cleanly. While a node runs it isn't there.
+/// The name of the file with the log's size when its node ended cleanly. While a node runs the file
+/// isn't there.
 const ENDED: &str = "ended";
 
 const NEW_ENDED: &str = "ended.new";
 
-/// How many bytes that file has at most: a number and a line feed.
+/// The greatest size of that file in bytes: a number and a line feed.
 const MOST_ENDED: usize = 21;
 
-/// No other process has the log until this is dropped or its process ends, in whatever way.
+/// The lock of a log. No other process has the log until the lock is dropped or its process ends,
+/// in whatever way.
 #[derive(Drop)]
 pub struct LogLock {
-    _log: File,
+    log: File,
     _found: Option<File>,
 }
 
-/// An empty file for a log that is to be made, and gets its name by [`name_log`].
+/// An empty file for a new log, which gets its name by [`name_log`].
 #[derive(Drop)]
 pub struct MadeLog {
     pub file: LogFile,
     pub lock: LogLock,
 }
 
-/// A log that was found, an empty file in which it is to be written anew, and what is still to be
-/// done with both.
+/// A log that was found, an empty file for writing the log again, and what is still to be done with
+/// both.
 #[derive(Drop)]
 pub struct FoundLog {
     pub old: LogFile,
@@ -63,14 +129,14 @@ pub struct FoundLog {
     pub rest: FoundRest,
 }
 
-/// What settles a log that was found.
+/// What is still to be done with a log that was found.
 #[derive(Drop)]
 pub struct FoundRest {
     lock: LogLock,
     ended: Option<u64>,
 }
 
-/// A log as it is seen from outside, also while a node has it.
+/// A log that is only looked at, even while a node has it.
 #[derive(Drop)]
 pub struct LogView {
     pub file: LogFile,
@@ -79,30 +145,32 @@ pub struct LogView {
     ended: Option<u64>,
 }
 
-/// An empty file for a log in a folder, which is made too where there is none. A folder that has or
-/// had a log is refused.
+/// Creates an empty file for a log in the folder `path`, and the folder if there is none. Refuses a
+/// folder that has or had a log.
 pub fn make_log<R: Files<File = File>>(
     rt: &R,
     alloc: Global,
     path: &str,
 ) -> Result<MadeLog, LogFault> {
     make_folder(rt, path)?;
+    refuse_obstacles(rt, alloc, path)?;
     let new = open_new(rt, alloc, path)?;
     refuse_log(rt, alloc, path)?;
     let file = LogFile::new(again(&new)?, 0);
     let lock = LogLock {
-        _log: new,
+        log: new,
         _found: None,
     };
     Ok(MadeLog { file, lock })
 }
 
-/// Opens the log in a folder, and an empty file beside it.
+/// Opens the log in the folder `path`, and an empty file beside it.
 pub fn open_log<R: Files<File = File>>(
     rt: &R,
     alloc: Global,
     path: &str,
 ) -> Result<FoundLog, LogFault> {
+    refuse_obstacles(rt, alloc, path)?;
     let log = open_file(rt, alloc, path, LOG, true)?;
     lock_file(&log)?;
     refuse_other(rt, alloc, path, &log)?;
@@ -113,7 +181,7 @@ pub fn open_log<R: Files<File = File>>(
         LogFile::new(again(&new)?, 0),
     );
     let lock = LogLock {
-        _log: new,
+        log: new,
         _found: Some(log),
     };
     Ok(FoundLog {
@@ -123,8 +191,20 @@ pub fn open_log<R: Files<File = File>>(
     })
 }
 
+impl LogLock {
+    /// Returns whether the log's name in the folder `path` still belongs to this log. If the system
+    /// can't look there for another reason than a missing name, it returns `true`.
+    pub fn has_name(&self, rt: &impl Files, alloc: Global, path: &str) -> Result<bool, AllocError> {
+        let name = format!(in alloc; "{path}/{LOG}")?;
+        match fs::symlink_metadata(rt, name.as_str()) {
+            Ok(named) => Ok(is_same(&self.log, named.dev(), named.ino())),
+            Err(error) => Ok(!is_missing(error.kind())),
+        }
+    }
+}
+
 impl FoundRest {
-    /// Removes the new file: the folder is as it was found.
+    /// Removes the new file, so that the folder `path` is as it was found.
     pub fn forget<R: Files<File = File>>(
         self,
         rt: &R,
@@ -134,8 +214,8 @@ impl FoundRest {
         remove(rt, alloc, path, NEW_LOG)
     }
 
-    /// Gives the new file the log's name, and keeps what the old one has behind so many bytes of
-    /// chunks. A log that ended cleanly elsewhere stays as it is.
+    /// Gives the new file the log's name, and keeps the bytes after the first `len` bytes of record
+    /// blocks in the old file. A log that ended cleanly elsewhere stays unchanged.
     pub fn settle<R: Files<File = File>>(
         self,
         rt: &R,
@@ -159,7 +239,8 @@ impl FoundRest {
     }
 }
 
-/// Gives the new file the log's name, which is then on the disk, and so is the folder's.
+/// Gives the new file in the folder `path` the log's name, and syncs this name and the folder's
+/// name.
 pub fn name_log<R: Files<File = File>>(rt: &R, alloc: Global, path: &str) -> Result<(), LogFault> {
     rename(rt, alloc, path, NEW_LOG, LOG)?;
     sync_folder(rt, path)?;
@@ -167,9 +248,9 @@ pub fn name_log<R: Files<File = File>>(rt: &R, alloc: Global, path: &str) -> Res
 }
 
 impl LogView {
-    /// How many bytes the log has behind so many bytes of chunks. A log that ended cleanly
-    /// elsewhere is refused.
-    pub fn behind(&self, len: usize) -> Result<u64, LogFault> {
+    /// Returns how many bytes the log has after its first `len` bytes of record blocks. Refuses a
+    /// log that ended cleanly elsewhere.
+    pub fn bytes_after(&self, len: usize) -> Result<u64, LogFault> {
         let end = end_of(len);
         if self.ended.is_some_and(|ended| ended != end) {
             return Err(LogFault::Changed);
@@ -178,16 +259,20 @@ impl LogView {
     }
 }
 
-/// The log in a folder, which is only read: what it has at this moment.
+/// Returns the log in the folder `path`, for reading only, with the bytes that it has at this
+/// moment. These bytes and the log's name are on the disk then, so they outlive a crash.
 pub fn view_log<R: Files<File = File>>(
     rt: &R,
     alloc: Global,
     path: &str,
 ) -> Result<LogView, LogFault> {
+    refuse_obstacles(rt, alloc, path)?;
     let log = open_file(rt, alloc, path, LOG, false)?;
     let is_held = is_held(rt, alloc, path)?;
     let ended = read_ended(rt, alloc, path)?;
     let len = len_of(&log)?;
+    log.sync_all().map_err(fault_of)?;
+    sync_folder(rt, path)?;
     Ok(LogView {
         file: LogFile::new(log, len),
         is_held,
@@ -196,7 +281,7 @@ pub fn view_log<R: Files<File = File>>(
     })
 }
 
-/// Notes that a node ended cleanly, with a log all of which is on the disk.
+/// Notes in the folder `path` that a node ended cleanly. All of its log is on the disk.
 pub fn end_log<R: Files<File = File>>(rt: &R, alloc: Global, path: &str) -> Result<(), LogFault> {
     let log = open_file(rt, alloc, path, LOG, false)?;
     let len = len_of(&log)?;
@@ -205,7 +290,7 @@ pub fn end_log<R: Files<File = File>>(rt: &R, alloc: Global, path: &str) -> Resu
     sync_folder(rt, path)
 }
 
-// Makes a folder where there is none.
+// Creates the folder `path` if there is none.
 fn make_folder<R: Files>(rt: &R, path: &str) -> Result<(), LogFault> {
     match DirBuilder::new().mode(FOLDER_MODE).create(rt, path) {
         Ok(()) => Ok(()),
@@ -214,7 +299,7 @@ fn make_folder<R: Files>(rt: &R, path: &str) -> Result<(), LogFault> {
     }
 }
 
-// Refuses a folder that has or had a log, and removes the new one there.
+// Refuses a folder that has or had a log, and removes the new log there.
 fn refuse_log(rt: &impl Files, alloc: Global, path: &str) -> Result<(), LogFault> {
     if has_file(rt, alloc, path, LOG)? || has_file(rt, alloc, path, ENDED)? {
         remove(rt, alloc, path, NEW_LOG)?;
@@ -245,7 +330,7 @@ fn rename(
     fs::rename(rt, from.as_str(), to.as_str()).map_err(fault_of)
 }
 
-// An empty file for a log that isn't whole yet, with its lock.
+// Opens an empty file for a log that isn't complete yet, and locks it.
 fn open_new<R: Files<File = File>>(rt: &R, alloc: Global, path: &str) -> Result<File, LogFault> {
     let name = format!(in alloc; "{path}/{NEW_LOG}")?;
     let file = File::options()
@@ -260,7 +345,7 @@ fn open_new<R: Files<File = File>>(rt: &R, alloc: Global, path: &str) -> Result<
     Ok(file)
 }
 
-// How long a file is that has so many bytes of chunks.
+// Returns the length of a file that has `len` bytes of record blocks.
 fn end_of(len: usize) -> u64 {
     (len as u64).saturating_add(HEADER_LEN as u64)
 }
@@ -279,14 +364,52 @@ fn open_file<R: Files<File = File>>(
         .open(rt, name.as_str())
     {
         Ok(file) => Ok(file),
-        Err(error) => Err(match error.kind() {
-            ErrorKind::NotFound | ErrorKind::NotADirectory => LogFault::Missing,
-            _ => fault_of(error),
-        }),
+        Err(error) if is_missing(error.kind()) => Err(LogFault::Missing),
+        Err(error) => Err(fault_of(error)),
     }
 }
 
-// The same open file once more, with the lock that it has.
+fn is_missing(kind: ErrorKind) -> bool
+    ensures { result ≡ is_missing kind }
+{
+    match kind {
+        ErrorKind::NotFound | ErrorKind::NotADirectory => true,
+        _ => false,
+    }
+}
+
+// Refuses a folder that has something else under the name of one of the log's files.
+fn refuse_obstacles(rt: &impl Files, alloc: Global, path: &str) -> Result<(), LogFault> {
+    for part in [
+        LogPart::Log,
+        LogPart::NewLog,
+        LogPart::Dropped,
+        LogPart::Ended,
+        LogPart::NewEnded,
+    ] {
+        if let Some(obstacle) = obstacle_at(rt, alloc, path, part)? {
+            return Err(LogFault::Blocked(part, obstacle));
+        }
+    }
+    Ok(())
+}
+
+// Returns what stands at the name of one of the log's files, if it is no file.
+fn obstacle_at(
+    rt: &impl Files,
+    alloc: Global,
+    path: &str,
+    part: LogPart,
+) -> Result<Option<Obstacle>, LogFault> {
+    let name = format!(in alloc; "{path}/{part}")?;
+    match fs::symlink_metadata(rt, name.as_str()) {
+        Ok(found) => Ok(Obstacle::of(found.file_type())),
+        Err(error) if is_missing(error.kind()) => Ok(None),
+        Err(error) => Err(fault_of(error)),
+    }
+}
+
+// Returns another handle to the open file, which shares its lock.
 fn again(file: &File) -> Result<File, LogFault> {
     file.try_clone().map_err(fault_of)
 }
@@ -295,7 +418,7 @@ fn len_of(file: &File) -> Result<u64, LogFault> {
     Ok(file.metadata().map_err(fault_of)?.len())
 }
 
-// Takes a file's lock, unless another process has it.
+// Locks `file`, unless another process has the lock.
 fn lock_file(file: &File) -> Result<(), LogFault> {
     match file.try_lock() {
         Ok(()) => Ok(()),
@@ -304,7 +427,7 @@ fn lock_file(file: &File) -> Result<(), LogFault> {
     }
 }
 
-// Whether another process has the log's lock.
+// Returns whether another process has the log's lock.
 fn is_held<R: Files<File = File>>(rt: &R, alloc: Global, path: &str) -> Result<bool, LogFault> {
     let log = open_file(rt, alloc, path, LOG, false)?;
     match lock_file(&log) {
@@ -314,20 +437,27 @@ fn is_held<R: Files<File = File>>(rt: &R, alloc: Global, path: &str) -> Result<b
     }
 }
 
-// Refuses a log that has no longer its name: another process put a new one there before this one
+// Refuses a log that no longer has its name: another process put a new log there before this one
 // had its lock.
 fn refuse_other(rt: &impl Files, alloc: Global, path: &str, log: &File) -> Result<(), LogFault> {
     let name = format!(in alloc; "{path}/{LOG}")?;
-    let named = fs::metadata(rt, name.as_str()).map_err(fault_of)?;
-    let open = log.metadata().map_err(fault_of)?;
-    if open.dev() == named.dev() && open.ino() == named.ino() {
+    let named = fs::symlink_metadata(rt, name.as_str()).map_err(fault_of)?;
+    if is_same(log, named.dev(), named.ino()) {
         Ok(())
     } else {
         Err(LogFault::Held)
     }
 }
 
-// How many bytes the log had when its node ended cleanly, if it did.
+// Returns whether `file` has these numbers of device and inode.
+fn is_same(file: &File, dev: u64, ino: u64) -> bool {
+    match file.metadata() {
+        Ok(open) => open.dev() == dev && open.ino() == ino,
+        Err(_) => false,
+    }
+}
+
+// Returns the size that the log had when its node ended cleanly, if it did.
 fn read_ended<R: Files<File = File>>(
     rt: &R,
     alloc: Global,
@@ -343,7 +473,7 @@ fn read_ended<R: Files<File = File>>(
     }
 }
 
-// The length in the text of a clean end.
+// Returns the length that the text of a clean end contains.
 fn length_in(alloc: Global, bytes: &[u8]) -> Result<u64, LogFault>
     ensures exact { IfOk result (λ len. bytes.now ≡ ended_text len) }
     ensures changed { result ≡ Err LogFault.Changed → (len : ℕ) → len < 2 ^ 64
@@ -358,7 +488,7 @@ fn length_in(alloc: Global, bytes: &[u8]) -> Result<u64, LogFault>
     let Ok(len) = number.parse() else {
         return Err(LogFault::Changed);
     };
-    // also a number with a plus or zeros before it is read
+    // this text also rejects a plus sign and leading zeros
     let exact = ended_text(alloc, len)?;
     if exact.as_bytes() == bytes {
         Ok(len)
@@ -367,7 +497,7 @@ fn length_in(alloc: Global, bytes: &[u8]) -> Result<u64, LogFault>
     }
 }
 
-// The text of a clean end.
+// Returns the text of a clean end.
 fn ended_text(alloc: Global, len: u64) -> Result<String, AllocError>
     ensures { IfOk result (λ text. text.bytes.items ≡ ended_text len) }
 {
@@ -387,7 +517,7 @@ fn write_ended<R: Files<File = File>>(
     write_file(rt, &mut options, name.as_str(), text.as_bytes()).map_err(fault_of)
 }
 
-// Puts what a log has behind its end behind what was dropped before, and says how many bytes it is.
+// Appends the bytes after the log's end to `log.dropped`, and returns their count.
 fn keep_dropped<R: Files<File = File>>(
     rt: &R,
     alloc: Global,
@@ -407,7 +537,7 @@ fn keep_dropped<R: Files<File = File>>(
     Ok(bytes.len() as u64)
 }
 
-// Writes a file, which is made where there is none, and all of which is then on the disk.
+// Writes a file, and creates it if there is none. All of it is on the disk then.
 fn write_file<R: Files<File = File>>(
     rt: &R,
     options: &mut OpenOptions,
@@ -419,13 +549,13 @@ fn write_file<R: Files<File = File>>(
     file.sync_all()
 }
 
-// Puts the names in a folder on the disk.
+// Syncs the names in a folder.
 fn sync_folder<R: Files<File = File>>(rt: &R, path: &str) -> Result<(), LogFault> {
     let folder = File::open(rt, path).map_err(fault_of)?;
     folder.sync_all().map_err(fault_of)
 }
 
-// The folder in which a path's last part stands.
+// Returns the folder that contains the last part of `path`.
 fn parent(path: &str) -> &str {
     match path.trim_end_matches('/').rsplit_once('/') {
         Some(("", _)) => "/",
@@ -437,6 +567,6 @@ fn parent(path: &str) -> &str {
 fn fault_of(error: io::Error) -> LogFault {
     match error.kind() {
         ErrorKind::OutOfMemory => LogFault::Memory,
-        _ => LogFault::Disk,
+        kind => LogFault::Disk(kind),
     }
 }

@@ -1,52 +1,47 @@
-//! What a log's file begins with: whose log it is.
+//! The header of a log's file: whom the log belongs to, and which part differs in another log.
 
-ghost use Rattle.std.specs.Prelude.{◌≡◌, ◌≢◌, ◌↔◌, ◌+◌, ◌≤◌, IfErr, IfOk, IfSome, IfNone, IsTrue};
-ghost use Rattle.std.specs.Prelude.{drop, length, take};
-ghost use Rattle.pay_log.specs.Headers.{fingerprint, header_bytes, version, IsForeignHeader};
-ghost use Rattle.pay_log.specs.declared.key.Format.{Format};
+ghost use Rattle.std.specs.Prelude.{◌≡◌, ◌↔◌, ◌+◌, ◌≤◌, IfErr, IfOk, IsTrue, OnOk, drop, length};
+ghost use Rattle.std.specs.Prelude.{take};
+ghost use Rattle.pay_log.specs.Headers.{header_bytes, IsForeignHeader};
 
-use crate::key::Format;
-use crate::limits::HEADER_LEN;
-use crate::mismatch::Mismatch;
+use crate::chunk::HEADER_LEN;
 use std::alloc::{AllocError, Global};
+use std::fmt;
 
 /// The first eight bytes of a log.
 const MAGIC: [u8; 8] = *b"payd log";
 
-/// The versions of the first format, of the second and of the third, which is written.
-const VERSIONS: (u8, u8, u8) = (1, 2, 4);
+/// The number of the format, in one byte.
+const VERSION: u8 = 4;
 
-/// Whose log a file is.
+/// The identity of a log: its genesis, its member and the member's keys.
 #[derive(Clone, Copy, Debug, PartialEq, Eq)]
 pub struct Header {
     /// The SHA-256 of the genesis.
     pub genesis: [u8; 32],
     /// The member's number.
     pub member: u16,
-    /// The fingerprint of the member's keys in the format that is written.
+    /// The fingerprint of the member's keys.
     pub keys: [u8; 32],
-    /// The one in the formats before it.
-    pub former_keys: [u8; 32],
 }
 
 impl Header {
-    /// Its 75 bytes, of the format that is written.
+    /// Returns the header's 75 bytes.
     pub fn encode(&self, alloc: Global) -> Result<Vec<u8>, AllocError>
-        ensures { IfOk result (λ bytes. bytes.items ≡ header_bytes Format.Third self.now) }
+        ensures { IfOk result (λ bytes. bytes.items ≡ header_bytes self.now) }
     {
         let mut bytes = Vec::with_capacity(alloc, HEADER_LEN)?;
         bytes.extend_from_slice(&MAGIC)?;
-        bytes.push(VERSIONS.2)?;
+        bytes.push(VERSION)?;
         bytes.extend_from_slice(&self.genesis)?;
         bytes.extend_from_slice(&self.member.to_be_bytes())?;
         bytes.extend_from_slice(&self.keys)?;
         Ok(bytes)
     }
 
-    /// The format of the log that begins with some bytes, or what there isn't as in this header.
-    pub fn judge(&self, front: &[u8]) -> Result<Format, Mismatch>
-        ensures same { IfOk result (λ format.
-            take HEADER_LEN front.now ≡ header_bytes format self.now) }
+    /// Returns the first part of this header that `front` doesn't begin with, if there is one.
+    pub fn judge(&self, front: &[u8]) -> Result<(), Mismatch>
+        ensures same { OnOk result (take HEADER_LEN front.now ≡ header_bytes self.now) }
         ensures differs { IfErr result (IsForeignHeader self.now front.now) }
     {
         if front.len() < HEADER_LEN {
@@ -55,56 +50,70 @@ impl Header {
         if !is_at(front, 0, &MAGIC) {
             return Err(Mismatch::NoLog);
         }
-        let Some(format) = format_at(front) else {
+        if !is_at(front, 8, &[VERSION]) {
             return Err(Mismatch::Version);
-        };
+        }
         if !is_at(front, 9, &self.genesis) {
             return Err(Mismatch::Genesis);
         }
         if !is_at(front, 41, &self.member.to_be_bytes()) {
             return Err(Mismatch::Member);
         }
-        if !is_at(front, 43, self.fingerprint(format)) {
+        if !is_at(front, 43, &self.keys) {
             return Err(Mismatch::Keys);
         }
-        Ok(format)
-    }
-
-    // The fingerprint of the member's keys in a format.
-    fn fingerprint(&self, format: Format) -> &[u8; 32]
-        ensures { result.now ≡ fingerprint format self.now }
-    {
-        match format {
-            Format::First | Format::Second => &self.former_keys,
-            Format::Third => &self.keys,
-        }
+        Ok(())
     }
 }
 
-// The format whose version stands after the magic bytes.
-fn format_at(bytes: &[u8]) -> Option<Format>
-    requires { 9 ≤ length bytes.now }
-    ensures some { IfSome result (λ format. take 1 (drop 8 bytes.now) ≡ version format) }
-    ensures none { IfNone result ((format : Format)
-        → take 1 (drop 8 bytes.now) ≢ version format) }
-{
-    if is_at(bytes, 8, &[VERSIONS.0]) {
-        return Some(Format::First);
-    }
-    if is_at(bytes, 8, &[VERSIONS.1]) {
-        return Some(Format::Second);
-    }
-    if is_at(bytes, 8, &[VERSIONS.2]) {
-        return Some(Format::Third);
-    }
-    None
-}
-
-// Whether the bytes from `at` on begin with a part.
+// Returns whether the bytes from `at` on begin with `part`.
 fn is_at(bytes: &[u8], at: usize, part: &[u8]) -> bool
     requires { at + length part.now ≤ length bytes.now }
     ensures { IsTrue result ↔ (take (length part.now) (drop at bytes.now) ≡ part.now) }
 {
     let there = &bytes[at..at + part.len()];
     there == part
+}
+
+/// The first part of a header that differs from that of this node's log.
+#[derive(Clone, Copy, Debug, PartialEq, Eq)]
+pub enum Mismatch {
+    /// The file is no log, or has no whole header.
+    NoLog,
+    /// Another version of the format.
+    Version,
+    /// A log of another genesis.
+    Genesis,
+    /// A log of another member.
+    Member,
+    /// A log under other keys.
+    Keys,
+}
+
+impl Mismatch {
+    ghost use Rattle.std.specs.Prelude.{◌≡◌};
+    ghost use Rattle.pay_log.specs.Faults.{mismatch_name};
+
+    pub const fn name(self) -> &'static str
+        ensures value { result.now ≡ mismatch_name self }
+    {
+        match self {
+            Mismatch::NoLog => "NoLog",
+            Mismatch::Version => "Version",
+            Mismatch::Genesis => "Genesis",
+            Mismatch::Member => "Member",
+            Mismatch::Keys => "Keys",
+        }
+    }
+}
+
+impl fmt::Display for Mismatch {
+    ghost use Rattle.std.specs.Prelude.{Some};
+    ghost use Rattle.pay_log.specs.Faults.{mismatch_name};
+
+    ghost output = { λ part. Some (mismatch_name part) };
+
+    fn fmt<W: fmt::Write>(&self, f: &mut fmt::Formatter<W>) -> fmt::Result {
+        f.write_str(self.name())
+    }
 }

@@ -2,15 +2,16 @@
 
 ghost use Rattle.pay_log.specs.Laws.{AcknowledgedAreRead, OneReading, ReadAgain};
 
-/// A file is the log of one list of payloads at most, and what was written is read again.
+/// States that a file is the log of at most one list of payloads, and that what was written is read
+/// again.
 // promise: reading a log
 pub fn one_reading()
     ensures one { OneReading }
     ensures again { ReadAgain }
 {}
 
-/// What is read of a file that a crash left in the midst of one append begins with all payloads
-/// that were acknowledged, and is a beginning of all that were written.
+/// States what is read of a file that a crash left during one append. It begins with all
+/// acknowledged payloads, and is a prefix of all payloads written.
 // promise: reading a log
 pub fn acknowledged_are_read()
     ensures { AcknowledgedAreRead }

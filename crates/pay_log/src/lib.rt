@@ -1,10 +1,10 @@
-//! A write-ahead log: payloads in chunks, each of them on the disk before it is acknowledged, by
-//! one sync a chunk.
+//! A write-ahead log: payloads in record blocks, each of them on the disk before it is
+//! acknowledged, by one sync for each block.
 //!
-//! A chunk begins with a mark that nobody makes without the log's key, and with its place. It ends
-//! with a checksum under that key, over its place and its bytes. [`recover`] hands on all payloads
-//! that were acknowledged, and writes them into a new file without what a crash left of a chunk
-//! that wasn't; [`Log`] appends.
+//! A record block begins with a block header, which nobody makes without the log's key, and with
+//! its place. It ends with a checksum under that key, over its place and its bytes. [`recover`]
+//! passes on all acknowledged payloads and writes them into a new file, without what a crash left
+//! of an unacknowledged block. [`Log`] appends.
 //!
 //! ```
 //! let Recovered { log, sink, .. } = recover(alloc, &mut old, new, &key, &header, payloads)?;
@@ -13,32 +13,23 @@
 #![tactic(auto)]
 
 mod chunk;
-mod damage;
 mod device;
 mod fault;
-mod file;
 mod folder;
 mod header;
-mod key;
 pub mod laws;
-mod limits;
 mod log;
-mod lossy;
-mod mismatch;
+mod obstacle;
 mod reading;
-mod sink;
 
-pub use device::{Device, DeviceFault, DiskFailed};
+pub use chunk::{HEADER_LEN, MOST_PAYLOAD};
+pub use device::{Device, DeviceFault, LossyFile};
 pub use fault::LogFault;
-pub use file::LogFile;
 pub use folder::{
-    FoundLog, FoundRest, LogLock, LogView, MadeLog, end_log, make_log, name_log, open_log, view_log,
+    FoundLog, FoundRest, LogFile, LogLock, LogView, MadeLog, end_log, make_log, name_log, open_log,
+    view_log,
 };
-pub use header::Header;
-pub use key::{Format, LogKey};
-pub use limits::{HEADER_LEN, MOST_PAYLOAD, SUM_LEN};
+pub use header::{Header, Mismatch};
 pub use log::{Log, Recovered, recover};
-pub use lossy::LossyFile;
-pub use mismatch::Mismatch;
-pub use reading::read_log;
-pub use sink::{Payloads, Refused, Sink};
+pub use obstacle::{LogPart, Obstacle};
+pub use reading::{Payloads, Refused, Sink, read_log};

@@ -3,7 +3,7 @@ use Rattle.std.proofs.Common.{◌≡◌, ◌≢◌, ◌⊎◌, inl, inr, ℕ, �
 use Rattle.std.specs.Bool.{⊤}
 use Rattle.std.specs.Option.{option_and_then, option_map, option_to_list}
 use Rattle.std.proofs.lemmas.Bool.{cases_order}
-use Rattle.pay_frame.specs.declared.fault.FrameFault.{FrameFault}
+use Rattle.pay_frame.specs.declared.reading.FrameFault.{FrameFault}
 use Rattle.pay_frame.specs.Frame.{FrameFields}
 use Rattle.pay_channel.specs.History as channel
 use Rattle.pay_channel.specs.Taken.{next}
@@ -11,20 +11,20 @@ use Rattle.pay_link.specs.Genesis.{GenesisFields}
 use Rattle.pay_link.specs.Keys.{KeyFields}
 use Rattle.pay_link.specs.Checked.{CheckedFields, IsFor}
 use Rattle.pay_link.specs.Fronts.{turn}
-use Rattle.pay_link.specs.declared.link_fault.LinkFault.{LinkFault}
-use Rattle.pay_link.specs.declared.link_fault.LinkFault.TheVariants as link
+use Rattle.pay_link.specs.declared.opened.LinkFault.{LinkFault}
+use Rattle.pay_link.specs.declared.opened.LinkFault.TheVariants as link
 use Rattle.pay_member.specs.declared.event.Event.TheVariants.{Taken}
 use Rattle.pay_member.specs.declared.fault.MemberFault.{MemberFault}
 use Rattle.pay_member.specs.declared.fault.MemberFault.TheVariants.{Memory, Repeat, Gap}
-use Rattle.pay_member.specs.declared.incoming.Incoming.{Incoming}
-use Rattle.pay_member.specs.declared.incoming.Incoming.TheVariants.{Message, Want}
-use Rattle.pay_member.specs.declared.outcome.Outcome.{Outcome}
-use Rattle.pay_member.specs.declared.outcome.Outcome.TheVariants as outcome
-use Rattle.pay_member.specs.declared.reply.Reply.{Reply}
-use Rattle.pay_member.specs.declared.reply.Reply.TheVariants as reply
-use Rattle.pay_member.specs.declared.take_fault.TakeFault.{TakeFault}
-use Rattle.pay_member.specs.declared.take_fault.TakeFault.TheVariants as take
-use Rattle.pay_member.specs.declared.took.Took.{Took}
+use Rattle.pay_member.specs.declared.bringing.Incoming.{Incoming}
+use Rattle.pay_member.specs.declared.bringing.Incoming.TheVariants.{Message, Want}
+use Rattle.pay_member.specs.declared.bringing.Outcome.{Outcome}
+use Rattle.pay_member.specs.declared.bringing.Outcome.TheVariants as outcome
+use Rattle.pay_member.specs.declared.event.Reply.{Reply}
+use Rattle.pay_member.specs.declared.event.Reply.TheVariants as reply
+use Rattle.pay_member.specs.declared.fault.TakeFault.{TakeFault}
+use Rattle.pay_member.specs.declared.fault.TakeFault.TheVariants as take
+use Rattle.pay_member.specs.declared.event.Took.{Took}
 use Rattle.pay_member.specs.Answer.{answer_of_take}
 use Rattle.pay_member.specs.Events.{events}
 use Rattle.pay_member.specs.Refusal.{refusal, turn_refusal}

@@ -2,8 +2,8 @@
 use Rattle.std.proofs.Common.{◌≡◌, ◌≢◌, ◌<◌, ℕ, Bool, true, false, cond, eqb, Option, Some, None, List, Result, Ok, Err, refl, sym, ap, ◌∙◌, subst}
 use Rattle.std.specs.Option.{option_and_then}
 use Rattle.std.proofs.lemmas.Bool.{eq-eqb, eqb-true, false≢true, cond-true, cond-false}
-use Rattle.pay_frame.specs.declared.kind.Kind.{Kind}
-use Rattle.pay_frame.specs.declared.kind.Kind.TheVariants.{Send, Echo, Ready, Want}
+use Rattle.pay_frame.specs.declared.body.Kind.{Kind}
+use Rattle.pay_frame.specs.declared.body.Kind.TheVariants.{Send, Echo, Ready, Want}
 use Rattle.pay_frame.specs.Frame.{FrameFields}
 use Rattle.pay_frame.specs.OneFrame.{IsOneFrame, one_frame}
 use Rattle.pay_channel.specs.History as channel
@@ -11,7 +11,7 @@ use Rattle.pay_channel.specs.History.{IsEvent}
 use Rattle.pay_channel.specs.Taken.{next}
 use Rattle.pay_link.specs.Keys.{KeyFields}
 use Rattle.pay_link.specs.Opening.{OpenedFields, Opens, judgement, opened_fields}
-use Rattle.pay_link.specs.declared.link_fault.LinkFault.{LinkFault}
+use Rattle.pay_link.specs.declared.opened.LinkFault.{LinkFault}
 use Rattle.pay_member.specs.Group.{group_in}
 use Rattle.pay_member.specs.Bringing.{is_want, unless_want, opened_in, event_of_frame, event_in}
 use Rattle.pay_member.specs.Laws.{OpenedIn, EventIn, BroughtMayCome}

@@ -17,7 +17,7 @@ use Rattle.pay_book.specs.Settled.{settled_book}
 use Rattle.pay_book.specs.Laws.{SettledEntriesGrow, LargestGrows, SettledBookExists, BookKeepsTotal, NobodyOwesOnceSettled, EqualListsEqualBooks}
 use Rattle.pay_member.specs.declared.event.Event.{Event}
 use Rattle.pay_member.specs.declared.event.Event.TheVariants.{Ask, Taken, Query}
-use Rattle.pay_member.specs.declared.entry.HistoryEntry.{HistoryEntry}
+use Rattle.pay_member.specs.declared.event.HistoryEntry.{HistoryEntry}
 use Rattle.pay_member.specs.Group.{group_in}
 use Rattle.pay_member.specs.Events.{channel_event, events}
 use Rattle.pay_member.specs.Book.{book_after}

@@ -13,12 +13,12 @@ use Rattle.pay_channel.specs.State.{State, IsStateBy, channel_lists}
 use Rattle.pay_channel.specs.Applied.{IsAsBefore}
 use Rattle.pay_channel.specs.Answer.{IsChannelAnswer}
 use Rattle.pay_channel.specs.ListLaws.{EmptyAtFirst}
-use Rattle.pay_channel.specs.FollowLaws.{ChannelFollows, UnchangedFollows, ListsFollow, AnswersFollow, ListsOfAreShort, UnchangedLists}
+use Rattle.pay_channel.specs.FollowLaws.{ChannelFollows, ListsFollow, AnswersFollow, ListsOfAreShort, UnchangedLists}
 use Rattle.pay_link.specs.Genesis.{GenesisFields, IsGenesis}
 use Rattle.pay_member.specs.Group.{group_in}
 use Rattle.pay_member.specs.Book.{book_after}
 use Rattle.pay_member.specs.Reply.{took_by}
-use Rattle.pay_member.specs.declared.took.Took.{Took}
+use Rattle.pay_member.specs.declared.event.Took.{Took}
 use Rattle.pay_book.specs.Settled.{settled_book}
 use Rattle.pay_book.specs.Book.{Standing, fresh, IsSettled, CanSettle}
 use Rattle.pay_book.specs.Laws.{FreshBookIsSettled, GrownListCanSettle, GroupListsAreCountable, SameListsStaySettled, SettledBookIsOne}
@@ -95,17 +95,6 @@ tracks_more more g own events old new e took tracks grows =
       follows = more old.channel new.channel events e grows.takes tracks.follows;
       opening = grows.opening ∙ tracks.opening;
       sound = grows.sound;
-    }
-
-pub tracks_same :
-    UnchangedFollows → (g : GenesisFields) (own : ℕ) (events : List channel.Event) (old new : LedgerFields)
-    → Tracks g own events old → IsSameLedger old new → Tracks g own events new
-tracks_same unchanged g own events old new tracks same =
-    record {
-      group = same.channel.group ∙ tracks.group;
-      follows = unchanged old.channel new.channel events same.channel tracks.follows;
-      opening = ap (λ (b : Standing). b.opening) same.book ∙ tracks.opening;
-      sound = same.sound;
     }
 
 pub lists_are :

@@ -1,13 +1,13 @@
 -- What is known of lies, with one event more.
-use Rattle.std.proofs.Common.{◌≡◌, ◌≢◌, ◌<◌, ◌⊎◌, ◌↔◌, ℕ, inl, inr, Bool, true, false, List, [], ◌∷◌, ◌++◌, length, get_or, replicate, Option, None, Some, refl, sym, ap, ◌∙◌, subst, append_assoc, length-set, true≢false, arith}
+use Rattle.std.proofs.Common.{◌≡◌, ◌≢◌, ◌<◌, ◌≤◌, ◌⊎◌, ◌↔◌, ℕ, inl, inr, Bool, true, false, List, [], ◌∷◌, ◌++◌, length, get_or, length-append, replicate, Option, None, Some, refl, sym, ap, ◌∙◌, subst, append_assoc, length-set, true≢false, arith}
 use Rattle.std.specs.Bool.{then_some}
 use Rattle.std.proofs.lemmas.Bool.{cases_eq}
 use Rattle.std.proofs.lemmas.List.{get_or-set_same, get_or-set_other, get_or-replicate, length-replicate}
 use Rattle.pay_frame.specs.Frame.{BodyFields}
 use Rattle.pay_channel.specs.History.{Event, Ask, From, body_of}
 use Rattle.pay_channel.specs.Lies.{IsLie}
-use Rattle.pay_member.specs.declared.lie.Lie.{Lie}
-use Rattle.pay_member.specs.Lies.{lie_of, HasTold, IsFound, AreFound, with_lie}
+use Rattle.pay_member.specs.declared.ledger.Lie.{Lie}
+use Rattle.pay_member.specs.Lies.{lie_of, HasTold, IsLastLie, IsFound, AreFound, with_lie}
 use Rattle.pay_member.proofs.Members.{split_push, nil_middle}
 
 -- the body of a lie with a value
@@ -24,23 +24,42 @@ told_stays history e p lie t =
       is = t.is;
     }
 
-told_now : (history : List Event) (p : ℕ) (body : BodyFields) → IsLie history p body → HasTold (history ++ From p body ∷ []) p (lie_of body)
-told_now history p body is = record { before = history; value = body.value; rest = []; told = refl; is = is }
+-- the last event is the last lie, if it is one
+last_now : (history : List Event) (p : ℕ) (body : BodyFields) → IsLie history p body → IsLastLie (history ++ From p body ∷ []) p (lie_of body)
+last_now history p body is =
+    record {
+      told = record { before = history; value = body.value; rest = []; told = refl; is = is };
+      last = λ other earlier.
+          let same = ap length earlier.told in
+          let all = length-append history (From p body ∷ []) in
+          let parts = length-append earlier.before (From p (told_body other earlier.value) ∷ earlier.rest) in
+          omega arith;
+    }
 
--- a lie is in the longer history: it was there before, or the last event is it
+-- a lie is in the longer history: it was there before, at the same place, or the last event is it
 module _ (history : List Event) (e : Event) (p : ℕ) where
   abbrev IsLast : Lie → Type 0
   IsLast lie = (v : List ℕ) × (From p (told_body lie v) ≡ e) × IsLie history p (told_body lie v)
 
-  told_before : (lie : Lie) → HasTold (history ++ e ∷ []) p lie → HasTold history p lie ⊎ IsLast lie
+  abbrev WasTold : (lie : Lie) → HasTold (history ++ e ∷ []) p lie → Type 0
+  WasTold lie t = (old : HasTold history p lie) × (old.before ≡ t.before)
+
+  told_before : (lie : Lie) (t : HasTold (history ++ e ∷ []) p lie) → WasTold lie t ⊎ IsLast lie
   told_before lie t = elim (split_push history t.before e (From p (told_body lie t.value)) t.rest t.told) [
     | inl last ↦ inr (t.value, last.1, subst (λ h. IsLie h p (told_body lie t.value)) last.0 t.is)
-    | inr earlier ↦ inl (record { before = t.before; value = t.value; rest = earlier.0; told = earlier.1; is = t.is })
+    | inr earlier ↦ inl (record { before = t.before; value = t.value; rest = earlier.0; told = earlier.1; is = t.is }, refl)
   ]
 
+  last_still : ((lie : Lie) → IsLast lie → ⊥) → (lie : Lie) → IsLastLie history p lie → IsLastLie (history ++ e ∷ []) p lie
+  unfolding told_stays
+  last_still never lie is = record { told = told_stays history e p lie is.told; last = λ other t. at other t (told_before other t) } where
+    at : (other : Lie) (t : HasTold (history ++ e ∷ []) p other) → WasTold other t ⊎ IsLast other → length t.before ≤ length is.told.before
+    at other t (inl old) = let earlier = is.last other old.0 in let same = ap length old.1 in omega arith
+    at other t (inr last) = absurd (never other last)
+
   found_still : ((lie : Lie) → IsLast lie → ⊥) → (o : Option Lie) → IsFound history p o → IsFound (history ++ e ∷ []) p o
-  found_still never None none = λ lie t. elim (told_before lie t) [ inl old ↦ none lie old | inr last ↦ never lie last ]
-  found_still never (Some lie) told = told_stays history e p lie told
+  found_still never None none = λ lie t. elim (told_before lie t) [ inl old ↦ none lie old.0 | inr last ↦ never lie last ]
+  found_still never (Some lie) is = last_still never lie is
 
 pub found_at_first : (members : ℕ) (lies : List (Option Lie)) → lies ≡ replicate members None → AreFound members [] lies
 found_at_first members lies are =
@@ -85,7 +104,7 @@ found_taken members history from body lies noted is_lie found member says are = 
         at : (p : ℕ) → p < members → ((p ≡ from) ⊎ (p ≢ from)) → IsFound more p (get_or noted p None)
         at p below (inl same) =
             let here : get_or noted from None ≡ Some (lie_of body) = ap (λ (l : List (Option Lie)). get_or l from None) are ∙ get_or-set_same lies from (Some (lie_of body)) None (let n = found.places in omega arith) in
-            subst (λ q. IsFound more q (get_or noted q None)) (sym same) (subst (λ o. IsFound more from o) (sym here) (told_now history from body (says.0 refl)))
+            subst (λ q. IsFound more q (get_or noted q None)) (sym same) (subst (λ o. IsFound more from o) (sym here) (last_now history from body (says.0 refl)))
         at p below (inr differs) =
             subst (λ o. IsFound more p o) (sym (ap (λ (l : List (Option Lie)). get_or l p None) are ∙ get_or-set_other lies from p (Some (lie_of body)) None differs)) (other p differs below)
   go false says are =

@@ -24,23 +24,23 @@ use Rattle.pay_book.specs.Laws.{SettledBookIsOne}
 use Rattle.pay_link.specs.Genesis.{GenesisFields, IsGenesis}
 use Rattle.pay_link.specs.Keys.{KeyFields, IsKeysOf}
 use Rattle.pay_member.specs.declared.event.Event.TheVariants.{Ask, Taken, Query}
-use Rattle.pay_member.specs.declared.entry.HistoryEntry.{HistoryEntry}
-use Rattle.pay_member.specs.declared.took.Took.{Took}
-use Rattle.pay_member.specs.declared.told.Told.{Told}
+use Rattle.pay_member.specs.declared.event.HistoryEntry.{HistoryEntry}
+use Rattle.pay_member.specs.declared.event.Took.{Took}
+use Rattle.pay_member.specs.declared.event.Told.{Told}
 use Rattle.pay_member.specs.Events.{channel_event, events}
 use Rattle.pay_link.specs.Checked.{CheckedFields, IsFor}
 use Rattle.pay_member.specs.Refusal.{refusal}
 use Rattle.pay_member.specs.Legal.{IsOwed, Legal}
 use Rattle.pay_member.specs.Ledger.{LedgerFields, Tracks, Grows}
-use Rattle.pay_member.specs.declared.lie.Lie.{Lie}
+use Rattle.pay_member.specs.declared.ledger.Lie.{Lie}
 use Rattle.pay_member.specs.Lies.{AreFound}
 use Rattle.pay_member.specs.Member.{MemberFields, AreTurns, IsMember, with_entry}
 use Rattle.pay_member.specs.Group.{group_in}
 use Rattle.pay_member.specs.Book.{book_after}
 use Rattle.pay_member.specs.Reply.{told_of}
 use Rattle.pay_member.specs.Reading.{state_of}
-use Rattle.pay_member.specs.declared.standing.PaymentState.{PaymentState}
-use Rattle.pay_member.specs.declared.standing.PaymentState.TheVariants.{Unknown, Asked, Waiting, Settled}
+use Rattle.pay_member.specs.declared.question.PaymentState.{PaymentState}
+use Rattle.pay_member.specs.declared.question.PaymentState.TheVariants.{Unknown, Asked, Waiting, Settled}
 use Rattle.pay_member.specs.Remembering.{TellsForgetting}
 use Rattle.pay_member.proofs.Histories.{events_may_come}
 use Rattle.pay_member.proofs.Ledgers.{tracks_more, lists_are, book_is}

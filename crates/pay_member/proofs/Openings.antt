@@ -1,17 +1,17 @@
 -- What bytes are, before a member's history is looked at.
 use Rattle.std.proofs.Common.{◌≡◌, ◌≢◌, ◌⊎◌, ◌↔◌, inl, inr, ℕ, Bool, true, false, cond, List, Option, Some, None, Result, Ok, Err, refl, sym, ap, ◌∙◌, subst}
 use Rattle.std.specs.Option.{option_and_then}
-use Rattle.pay_frame.specs.declared.fault.FrameFault.{FrameFault}
-use Rattle.pay_frame.specs.declared.kind.Kind.{Kind}
-use Rattle.pay_frame.specs.declared.kind.Kind.TheVariants as kind
+use Rattle.pay_frame.specs.declared.reading.FrameFault.{FrameFault}
+use Rattle.pay_frame.specs.declared.body.Kind.{Kind}
+use Rattle.pay_frame.specs.declared.body.Kind.TheVariants as kind
 use Rattle.pay_frame.specs.Frame.{FrameFields, IsFrame}
 use Rattle.pay_frame.specs.OneFrame.{IsOneFrame, IsOneReading, one_frame}
 use Rattle.pay_link.specs.Keys.{KeyFields, IsPeer}
 use Rattle.pay_link.specs.Checked.{CheckedFields, IsChecked, IsFor, bytes_of, checked_fields}
 use Rattle.pay_link.specs.Opening.{OpenedFields, Opens, judgement, opened_fields}
-use Rattle.pay_link.specs.declared.link_fault.LinkFault.{LinkFault}
-use Rattle.pay_member.specs.declared.incoming.Incoming.{Incoming}
-use Rattle.pay_member.specs.declared.incoming.Incoming.TheVariants.{Want, Message}
+use Rattle.pay_link.specs.declared.opened.LinkFault.{LinkFault}
+use Rattle.pay_member.specs.declared.bringing.Incoming.{Incoming}
+use Rattle.pay_member.specs.declared.bringing.Incoming.TheVariants.{Want, Message}
 use Rattle.pay_member.specs.Bringing.{is_want, incoming, incoming_of, incoming_at, unless_want, opened_in, checked_with}
 use Rattle.pay_member.specs.OpeningLaws.{OpensFrom}
 

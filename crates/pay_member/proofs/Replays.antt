@@ -1,31 +1,33 @@
 -- A history taken once more, with one entry more.
-use Rattle.std.proofs.Common.{◌≡◌, ℕ, ◌+◌, ◌<◌, ◌⊎◌, inl, inr, true, false, leb, ltb, Option, Some, None, List, [], ◌∷◌, ◌++◌, length, replicate, take, drop, slice_get, slice_index, refl, sym, ap, ◌∙◌, subst, arith}
+use Rattle.std.proofs.Common.{◌≡◌, ℕ, ◌+◌, ◌<◌, ◌⊎◌, inl, inr, true, false, leb, ltb, Option, Some, None, List, [], ◌∷◌, ◌++◌, length, replicate, take, drop, slice_get, refl, sym, ap, ◌∙◌, subst, arith}
 use Rattle.std.specs.Option.{option_map}
 use Rattle.std.proofs.lemmas.Bool.{cases_Bool, leb-false, cond-true, cond-false}
-use Rattle.std.proofs.lemmas.List.{take-append-drop, take_more, drop_more, get_or-replicate, length-replicate}
+use Rattle.std.proofs.lemmas.List.{take-append-drop, take_more, drop_more}
 use Rattle.std.proofs.lemmas.Option.{slice_get_within, get_or_from_slice_get}
 use Rattle.pay_frame.specs.declared.limits.TheConstants.{GREATEST_VALUE, SEQS}
 use Rattle.pay_echo.specs.Broadcast.{Group}
 use Rattle.pay_channel.specs.History as channel
 use Rattle.pay_channel.specs.History.{IsEvent, asks}
-use Rattle.pay_channel.specs.Taken.{next}
 use Rattle.pay_channel.specs.TakenLaws.{NothingTakenAtFirst}
-use Rattle.pay_channel.specs.FollowLaws.{ChannelFollows, UnchangedFollows}
+use Rattle.pay_channel.specs.FollowLaws.{ChannelFollows, ListsFollow}
+use Rattle.pay_channel.specs.ListLaws.{ListsGrow, EmptyAtFirst}
+use Rattle.pay_channel.specs.SentLaws.{AskedGrows, OwnEchoIsAsk}
 use Rattle.pay_link.specs.Genesis.{GenesisFields, IsGenesis}
 use Rattle.pay_link.specs.Keys.{KeyFields, IsKeysOf}
 use Rattle.pay_member.specs.declared.event.Event.{Event}
 use Rattle.pay_member.specs.declared.event.Event.TheVariants.{Ask}
-use Rattle.pay_member.specs.declared.entry.HistoryEntry.{HistoryEntry}
-use Rattle.pay_member.specs.declared.took.Took.{Took}
+use Rattle.pay_member.specs.declared.event.HistoryEntry.{HistoryEntry}
+use Rattle.pay_member.specs.declared.event.Took.{Took}
 use Rattle.pay_member.specs.Events.{channel_event, events}
-use Rattle.pay_member.specs.Ledger.{LedgerFields, Tracks, Grows, IsSameLedger}
+use Rattle.pay_member.specs.declared.ledger.Lie.{Lie}
+use Rattle.pay_member.specs.Ledger.{LedgerFields, Tracks, Grows}
+use Rattle.pay_member.specs.Lies.{AreFound}
 use Rattle.pay_member.specs.Legal.{IsOwed, Legal}
-use Rattle.pay_member.specs.Member.{MemberFields, AreTurns}
+use Rattle.pay_member.specs.Member.{MemberFields, AreTurns, IsMember, with_entry}
 use Rattle.pay_member.specs.Refusal.{refusal}
 use Rattle.pay_member.specs.Replay.{ReplayFields, IsReplay, next_event, member_replayed}
 use Rattle.pay_member.proofs.Histories.{owed_may_come, prefix_is_legal, some_is}
-use Rattle.pay_member.proofs.Ledgers.{tracks_more, tracks_same}
-use Rattle.pay_member.proofs.Members.{events-push, events-unchanged, legal_none}
+use Rattle.pay_member.proofs.Members.{member_fresh, member_more, member_queried}
 
 -- ---- the entry that is next
 
@@ -90,99 +92,58 @@ ask_left g k before v taken = go (cases_Bool (ltb GREATEST_VALUE (length v))) wh
 
 -- and what it brings to the channel may come there
 pub next_may_come :
-    (r : ReplayFields) (ledger : LedgerFields) (fronts : List ℕ) (event : Event) (e : channel.Event) → IsReplay r ledger fronts
+    (r : ReplayFields) (ledger : LedgerFields) (fronts : List ℕ) (lies : List (Option Lie)) (event : Event) (e : channel.Event) → IsReplay r ledger fronts lies
     → Legal r.member.genesis r.member.keys r.member.history → next_event r ≡ Some event → channel_event event ≡ Some e → IsEvent ledger.channel.group e
-next_may_come r ledger fronts event e replay legal is brings =
+next_may_come r ledger fronts lies event e replay legal is brings =
     let next = next_is r event is in
-    subst (λ (g : Group). IsEvent g e) (sym replay.view.tracks.group)
-    (owed_may_come r.member.genesis r.member.keys replay.view.keys (events (member_replayed r).history) next.entry (next_owed r event legal next) e (ap channel_event next.is ∙ brings))
+    subst (λ (g : Group). IsEvent g e) (sym replay.is.tracks.group)
+    (owed_may_come r.member.genesis r.member.keys replay.is.keys (events (member_replayed r).history) next.entry (next_owed r event legal next) e (ap channel_event next.is ∙ brings))
 
 -- ---- with one entry more
 
 abbrev one_more : ReplayFields → ReplayFields
 one_more r = record r { taken = r.taken + 1 }
 
-pub replay_more :
-    ChannelFollows → (r : ReplayFields) (old new : LedgerFields) (fronts later : List ℕ) (event : Event) (e : channel.Event) (took : Took)
-    → IsReplay r old fronts → Legal r.member.genesis r.member.keys r.member.history → next_event r ≡ Some event → channel_event event ≡ Some e → Grows old new e took
-    → length later ≡ length fronts → AreTurns r.member.genesis.members (events (member_replayed r).history ++ e ∷ []) later
-    → IsReplay (one_more r) new later
-replay_more more r old new fronts later event e took replay legal is brings grows places turns =
-    let g = r.member.genesis in
-    let k = r.member.keys in
-    let h = r.member.history in
-    let entry = next_is r event is in
-    let now : events (take (r.taken + 1) h) ≡ events (take r.taken h) ++ e ∷ [] =
-    ap events (taken_next h r.taken entry.entry entry.there) ∙ events-push (take r.taken h) entry.entry e (ap channel_event entry.is ∙ brings) in
-    let within = next_within r event is in
+-- what follows from the member with the next entry follows once that entry is taken
+with_next :
+    (r : ReplayFields) (ledger : LedgerFields) (fronts : List ℕ) (lies : List (Option Lie)) (event : Event) (next : IsNext r event) → r.taken < length r.member.history
+    → IsMember (with_entry (member_replayed r) next.entry) ledger fronts lies → IsReplay (one_more r) ledger fronts lies
+with_next r ledger fronts lies event next within is =
     record {
       within = omega arith;
-      view = record {
-        genesis = replay.view.genesis;
-        keys = replay.view.keys;
-        legal = legal_take g k h (r.taken + 1) legal;
-        tracks = subst (λ (l : List channel.Event). Tracks g k.own l new) (sym now) (tracks_more more g k.own (events (take r.taken h)) old new e took replay.view.tracks grows);
-      };
-      one_for_each = places ∙ replay.one_for_each;
-      turns = λ p member. turns p member ∙ ap (next p) (sym now);
+      is = subst (λ (h : List HistoryEntry). IsMember (record r.member { history = h }) ledger fronts lies) (sym (taken_next r.member.history r.taken next.entry next.there)) is;
     }
+
+pub replay_more :
+    ChannelFollows → ListsFollow → ListsGrow → AskedGrows → OwnEchoIsAsk → (r : ReplayFields) (old new : LedgerFields) (fronts later : List ℕ) (lies noted : List (Option Lie)) (event : Event) (e : channel.Event) (took : Took)
+    → IsReplay r old fronts lies → Legal r.member.genesis r.member.keys r.member.history → next_event r ≡ Some event → channel_event event ≡ Some e → Grows old new e took
+    → length later ≡ length fronts → AreTurns r.member.genesis.members (events (member_replayed r).history ++ e ∷ []) later
+    → AreFound r.member.genesis.members (events (member_replayed r).history ++ e ∷ []) noted
+    → IsReplay (one_more r) new later noted
+replay_more more follow longer asked echo r old new fronts later lies noted event e took replay legal is brings grows places turns found =
+    let next = next_is r event is in
+    with_next r new later noted event next (next_within r event is)
+    (member_more more follow longer asked echo (member_replayed r) old new fronts later lies noted next.entry e took replay.is grows
+    (ap channel_event next.is ∙ brings) (next_owed r event legal next) (places ∙ replay.is.one_for_each) turns found)
 
 -- a query changes nothing else
 pub replay_queried :
-    (r : ReplayFields) (ledger : LedgerFields) (fronts : List ℕ) (event : Event)
-    → IsReplay r ledger fronts → Legal r.member.genesis r.member.keys r.member.history → next_event r ≡ Some event → channel_event event ≡ None
-    → IsReplay (one_more r) ledger fronts
-replay_queried r ledger fronts event replay legal is brings =
-    let g = r.member.genesis in
-    let k = r.member.keys in
-    let h = r.member.history in
-    let entry = next_is r event is in
-    let now : events (take (r.taken + 1) h) ≡ events (take r.taken h) =
-    ap events (taken_next h r.taken entry.entry entry.there) ∙ events-unchanged (take r.taken h) entry.entry (ap channel_event entry.is ∙ brings) in
-    let within = next_within r event is in
-    record {
-      within = omega arith;
-      view = record {
-        genesis = replay.view.genesis;
-        keys = replay.view.keys;
-        legal = legal_take g k h (r.taken + 1) legal;
-        tracks = subst (λ (l : List channel.Event). Tracks g k.own l ledger) (sym now) replay.view.tracks;
-      };
-      one_for_each = replay.one_for_each;
-      turns = λ p member. replay.turns p member ∙ ap (next p) (sym now);
-    }
-
--- where nothing changed that can be seen
-pub replay_same :
-    UnchangedFollows → (r : ReplayFields) (old new : LedgerFields) (fronts : List ℕ) → IsReplay r old fronts → IsSameLedger old new → IsReplay r new fronts
-replay_same unchanged r old new fronts replay same =
-    record {
-      within = replay.within;
-      view = record {
-        genesis = replay.view.genesis;
-        keys = replay.view.keys;
-        legal = replay.view.legal;
-        tracks = tracks_same unchanged r.member.genesis r.member.keys.own (events (member_replayed r).history) old new replay.view.tracks same;
-      };
-      one_for_each = replay.one_for_each;
-      turns = replay.turns;
-    }
+    (r : ReplayFields) (ledger : LedgerFields) (fronts : List ℕ) (lies : List (Option Lie)) (event : Event)
+    → IsReplay r ledger fronts lies → Legal r.member.genesis r.member.keys r.member.history → next_event r ≡ Some event → channel_event event ≡ None
+    → IsReplay (one_more r) ledger fronts lies
+replay_queried r ledger fronts lies event replay legal is brings =
+    let next = next_is r event is in
+    with_next r ledger fronts lies event next (next_within r event is)
+    (member_queried (member_replayed r) ledger fronts lies next.entry replay.is (ap channel_event next.is ∙ brings) (next_owed r event legal next))
 
 -- before the first one
 pub replay_fresh :
-    NothingTakenAtFirst → (m : MemberFields) (own : ℕ) (ledger : LedgerFields) (fronts : List ℕ)
-    → IsGenesis m.genesis → IsKeysOf m.genesis m.keys → own ≡ m.keys.own → Tracks m.genesis own [] ledger → fronts ≡ replicate m.genesis.members 0
-    → IsReplay (record { member = m; taken = 0 }) ledger fronts
-unfolding events
-replay_fresh nothing m own ledger fronts limits keys mine tracks zeros =
+    NothingTakenAtFirst → EmptyAtFirst → (m : MemberFields) (own : ℕ) (ledger : LedgerFields) (fronts : List ℕ) (lies : List (Option Lie))
+    → IsGenesis m.genesis → IsKeysOf m.genesis m.keys → own ≡ m.keys.own → Tracks m.genesis own [] ledger → ledger.has_forgotten ≡ false
+    → fronts ≡ replicate m.genesis.members 0 → AreFound m.genesis.members [] lies
+    → IsReplay (record { member = m; taken = 0 }) ledger fronts lies
+replay_fresh nothing empty m own ledger fronts lies limits keys mine tracks fresh zeros found =
     record {
       within = omega arith;
-      view = record {
-        genesis = limits;
-        keys = keys;
-        legal = legal_none m.genesis m.keys;
-        tracks = subst (λ (o : ℕ). Tracks m.genesis o [] ledger) mine tracks;
-      };
-      one_for_each = ap length zeros ∙ length-replicate m.genesis.members 0;
-      turns = λ p member. ap (λ (f : List ℕ). slice_index f p) zeros ∙ get_or-replicate m.genesis.members p 0 0 member ∙ sym (ap length (nothing p));
+      is = member_fresh nothing empty m.genesis m.keys own ledger fronts lies limits keys mine tracks fresh zeros found;
     }

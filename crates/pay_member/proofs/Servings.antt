@@ -10,9 +10,9 @@ use Rattle.pay_link.specs.Keys.{KeyFields}
 use Rattle.pay_link.specs.Checked.{checked_fields}
 use Rattle.pay_link.specs.Opening.{OpenedFields, judgement}
 use Rattle.pay_link.specs.Sealing.{want_frame}
-use Rattle.pay_link.specs.declared.link_fault.LinkFault.{LinkFault}
-use Rattle.pay_member.specs.declared.incoming.Incoming.TheVariants.{Want, Message}
-use Rattle.pay_member.specs.declared.outcome.Outcome.{Outcome}
+use Rattle.pay_link.specs.declared.opened.LinkFault.{LinkFault}
+use Rattle.pay_member.specs.declared.bringing.Incoming.TheVariants.{Want, Message}
+use Rattle.pay_member.specs.declared.bringing.Outcome.{Outcome}
 use Rattle.pay_member.specs.Events.{events}
 use Rattle.pay_member.specs.Member.{MemberFields}
 use Rattle.pay_member.specs.Bringing.{is_want, incoming_of, incoming_at, unless_want, opened_in, outcome_to, answer_to, event_in, event_of_frame, want_for, want_after, checked_with, with_taken, with_brought}

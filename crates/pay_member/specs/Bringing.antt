@@ -1,9 +1,9 @@
--- What bytes that are brought to a member are to it, and what it answers to them.
+-- What the bytes that a member receives are to it, and what it answers to them.
 use Rattle.std.specs.Prelude.{◌≡◌, ◌≢◌, ℕ, ◌==◌, Bool, true, false, if◌then◌else◌, List, Option}
 use Rattle.std.specs.Prelude.{Some, None, option_and_then, option_map, Result, Ok, Err, ⊤}
-use Rattle.pay_frame.specs.declared.fault.FrameFault.{FrameFault}
-use Rattle.pay_frame.specs.declared.kind.Kind.{Kind}
-use Rattle.pay_frame.specs.declared.kind.Kind.TheVariants as kind
+use Rattle.pay_frame.specs.declared.reading.FrameFault.{FrameFault}
+use Rattle.pay_frame.specs.declared.body.Kind.{Kind}
+use Rattle.pay_frame.specs.declared.body.Kind.TheVariants as kind
 use Rattle.pay_frame.specs.Frame.{FrameFields, frame_bytes}
 use Rattle.pay_frame.specs.OneFrame.{IsOneReading, one_frame}
 use Rattle.pay_channel.specs.History as channel
@@ -14,16 +14,16 @@ use Rattle.pay_link.specs.Checked.{CheckedFields}
 use Rattle.pay_link.specs.Fronts.{turn}
 use Rattle.pay_link.specs.Opening.{OpenedFields, judgement}
 use Rattle.pay_link.specs.Sealing.{want_frame}
-use Rattle.pay_link.specs.declared.link_fault.LinkFault.{LinkFault}
+use Rattle.pay_link.specs.declared.opened.LinkFault.{LinkFault}
 use Rattle.pay_member.specs.declared.event.Event.TheVariants.{Taken}
-use Rattle.pay_member.specs.declared.brought.Brought.{Brought}
-use Rattle.pay_member.specs.declared.incoming.Incoming.{Incoming}
-use Rattle.pay_member.specs.declared.incoming.Incoming.TheVariants.{Want, Message}
-use Rattle.pay_member.specs.declared.received.Received.{Received}
-use Rattle.pay_member.specs.declared.outcome.Outcome.{Outcome}
-use Rattle.pay_member.specs.declared.outcome.Outcome.TheVariants.{Took, Wanted, Frame, Link}
-use Rattle.pay_member.specs.declared.outcome.Outcome.TheVariants.{WrongKey}
-use Rattle.pay_member.specs.declared.reply.Reply.TheVariants as reply
+use Rattle.pay_member.specs.declared.bringing.Brought.{Brought}
+use Rattle.pay_member.specs.declared.bringing.Incoming.{Incoming}
+use Rattle.pay_member.specs.declared.bringing.Incoming.TheVariants.{Want, Message}
+use Rattle.pay_member.specs.declared.ledger.Received.{Received}
+use Rattle.pay_member.specs.declared.bringing.Outcome.{Outcome}
+use Rattle.pay_member.specs.declared.bringing.Outcome.TheVariants.{Took, Wanted, Frame, Link}
+use Rattle.pay_member.specs.declared.bringing.Outcome.TheVariants.{WrongKey}
+use Rattle.pay_member.specs.declared.event.Reply.TheVariants as reply
 use Rattle.pay_member.specs.Reply.{took_by}
 use Rattle.pay_member.specs.Member.{MemberFields, with_entry}
 
@@ -35,7 +35,7 @@ is_want kind.Want = true
 
 -- ---- before the history is looked at
 
--- what a frame is that opened: a WANT, or a message
+-- what an authenticated frame is: a WANT, or a message
 abbrev pub incoming : OpenedFields → Incoming
 incoming opened =
     if is_want opened.frame.body.kind
@@ -50,7 +50,7 @@ incoming_of (Err fault) = Err fault
 unfoldable pub incoming_at : KeyFields → FrameFields → Result Incoming LinkFault
 incoming_at k f = incoming_of (judgement k f)
 
--- it is all of this frame, which a peer sent
+-- all of this frame, which a peer sent
 abbrev pub IsOfPeer : KeyFields → FrameFields → Incoming → Type 0
 IsOfPeer k f (Want from number) = IsPeer k from × (from ≡ f.from)
 IsOfPeer k f (Message opened) =
@@ -62,11 +62,11 @@ abbrev pub unless_want : Result OpenedFields LinkFault → Option FrameFields
 unless_want (Ok opened) = if is_want opened.frame.body.kind then None else Some opened.frame
 unless_want (Err fault) = None
 
--- the frame that bytes are, where it opens with these keys and is no WANT
+-- the frame that bytes are, if these keys authenticate it and it is no WANT
 unfoldable pub opened_in : KeyFields → List ℕ → Option FrameFields
 opened_in k bytes = option_and_then (λ f. unless_want (judgement k f)) (one_frame bytes)
 
--- what a frame is to a channel, where its number is the next from its sender
+-- what a frame is to a channel, if its number is the next one from its sender
 abbrev pub event_of_frame : List channel.Event → FrameFields → Option channel.Event
 event_of_frame before f =
     if f.number == next f.from before then Some (channel.From f.from f.body) else None
@@ -78,7 +78,7 @@ event_in k before bytes = option_and_then (event_of_frame before) (opened_in k b
 
 -- ---- the answer
 
--- to a frame that opened: it is taken where its number is the next one
+-- the answer to an authenticated frame: it is accepted if its number is the next one
 abbrev pub outcome_of_judged :
     GenesisFields → ℕ → List channel.Event → FrameFields → Result ⊤ LinkFault → Outcome
 outcome_of_judged g own before f (Ok _) = Took (took_by g own before (channel.From f.from f.body))
@@ -87,52 +87,52 @@ outcome_of_judged g own before f (Err fault) = Link fault
 unfoldable pub answer_to : GenesisFields → ℕ → List channel.Event → FrameFields → Outcome
 answer_to g own before f = outcome_of_judged g own before f (turn (next f.from before) f.number)
 
--- to a frame
+-- the answer to a frame
 abbrev pub outcome_to :
     GenesisFields → ℕ → List channel.Event → Result Incoming LinkFault → Outcome
 outcome_to g own before (Ok (Message opened)) = answer_to g own before opened.frame
 outcome_to g own before (Ok (Want from number)) = Wanted from number
 outcome_to g own before (Err fault) = Link fault
 
--- to what bytes read as
+-- the answer to what bytes read as
 unfoldable pub outcome_of :
     GenesisFields → KeyFields → List channel.Event → Result FrameFields FrameFault → Outcome
 outcome_of g k before (Ok f) = outcome_to g k.own before (incoming_at k f)
 outcome_of g k before (Err fault) = Frame fault
 
--- to bytes, by the one reading that they have
+-- The answer to bytes, according to their only reading.
 pub record IsOutcome (g : GenesisFields) (k : KeyFields) (before : List channel.Event)
     (bytes : List ℕ) (outcome : Outcome) : Type 0 where
   pub reading : Result FrameFields FrameFault
   pub reads : IsOneReading bytes reading
   pub is : outcome ≡ outcome_of g k before reading
 
--- where nothing is handed to the member
+-- the answer if nothing is handed to the member
 abbrev pub answered_at_once : Outcome → Received
 answered_at_once outcome = record { outcome = outcome; next = None }
 
--- with the WANT to the sender for the number that is next, if one is
+-- the answer with the WANT to the sender for the number that is next, if there is one
 abbrev pub with_want : KeyFields → ℕ → Received → Brought
 with_want k from r = record {
   outcome = r.outcome;
   want = option_map (λ number. frame_bytes (want_frame k from number)) r.next;
 }
 
--- the WANT that goes with it, where a frame opened that is none: for what is next after these
--- events
+-- the WANT that goes with the answer to an authenticated frame that is no WANT: it requests what is
+-- next after these events
 abbrev pub want_for : KeyFields → List channel.Event → FrameFields → List ℕ
 want_for k after f = frame_bytes (want_frame k f.from (next f.from after))
 
 unfoldable pub want_after : KeyFields → List channel.Event → List ℕ → Option (List ℕ)
 want_after k after bytes = option_map (want_for k after) (opened_in k bytes)
 
--- ---- what the member is then
+-- ---- the member afterwards
 
--- an opened frame with the key that it opened under
+-- an authenticated frame with the key that authenticated it
 abbrev pub checked_with : KeyFields → FrameFields → CheckedFields
 checked_with k f = record { frame = f; key = key_for k f.from }
 
--- one entry more where it was taken, else as it was
+-- the member with one more entry if the frame was accepted, and otherwise unchanged
 abbrev pub with_taken : MemberFields → ℕ → CheckedFields → Outcome → MemberFields
 with_taken m stamp c (Took took) =
     with_entry m (record { stamp = stamp; event = Taken c; reply = reply.Took took })
@@ -141,7 +141,7 @@ with_taken m stamp c (Frame fault) = m
 with_taken m stamp c (Link fault) = m
 with_taken m stamp c WrongKey = m
 
--- the same by what bytes open as
+-- the member according to the frame that bytes are authenticated as
 abbrev pub with_brought : MemberFields → ℕ → Outcome → Option FrameFields → MemberFields
 with_brought m stamp outcome (Some f) = with_taken m stamp (checked_with m.keys f) outcome
 with_brought m stamp outcome None = m

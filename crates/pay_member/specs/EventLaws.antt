@@ -1,13 +1,13 @@
--- What holds of the events of a stored history, as statements. Each is proved as a public law.
+-- Statements about the events of a stored history. Each is proved as a public law.
 use Rattle.std.specs.Prelude.{◌≡◌, List, [], ◌∷◌, ◌++◌}
 use Rattle.std.specs.Option.{option_to_list}
-use Rattle.pay_member.specs.declared.entry.HistoryEntry.{HistoryEntry}
+use Rattle.pay_member.specs.declared.event.HistoryEntry.{HistoryEntry}
 use Rattle.pay_member.specs.Events.{channel_event, events}
 
 abbrev pub NoEventsAtFirst : Type 0
 NoEventsAtFirst = events [] ≡ []
 
--- one entry more
+-- one more entry
 abbrev pub EventsByOneMore : Type 0
 EventsByOneMore =
     (history : List HistoryEntry) (x : HistoryEntry)

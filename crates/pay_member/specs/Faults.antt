@@ -1,18 +1,15 @@
--- Refusals: which each call can meet, and the number and the name under which each is printed.
+-- Refusals: those that each call can return, and the number and the name that each is printed with.
 use Rattle.std.specs.Prelude.{ℕ, List, ◌++◌, codes, decimal}
-use Rattle.pay_member.specs.declared.ask_fault.AskFault.{AskFault}
-use Rattle.pay_member.specs.declared.ask_fault.AskFault.TheVariants as ask
-use Rattle.pay_member.specs.declared.take_fault.TakeFault.{TakeFault}
-use Rattle.pay_member.specs.declared.take_fault.TakeFault.TheVariants as take
-use Rattle.pay_member.specs.declared.query_fault.QueryFault.{QueryFault}
-use Rattle.pay_member.specs.declared.query_fault.QueryFault.TheVariants as query
+use Rattle.pay_member.specs.declared.fault.AskFault.{AskFault}
+use Rattle.pay_member.specs.declared.fault.AskFault.TheVariants as ask
+use Rattle.pay_member.specs.declared.fault.TakeFault.{TakeFault}
+use Rattle.pay_member.specs.declared.fault.TakeFault.TheVariants as take
+use Rattle.pay_member.specs.declared.fault.QueryFault.{QueryFault}
+use Rattle.pay_member.specs.declared.fault.QueryFault.TheVariants as query
 use Rattle.pay_member.specs.declared.fault.MemberFault.{MemberFault}
 use Rattle.pay_member.specs.declared.fault.MemberFault.TheVariants.{Memory, Spent, TooLong, Repeat}
 use Rattle.pay_member.specs.declared.fault.MemberFault.TheVariants.{Gap, WrongKey, NoAccount}
 
--- change: a refusal of a member, as `Spent`: `specs/Refusal.antt`; how a desk tells it:
---   `pay_desk/src/one_member.rt`, `pay_peers/src/teller.rt`; model
---   `tests/models/model.py`
 abbrev pub member_fault_entry : MemberFault → ℕ × List ℕ
 member_fault_entry Memory = (0, codes "Memory")
 member_fault_entry Spent = (1, codes "Spent")

@@ -1,4 +1,4 @@
--- The group that a genesis makes, as one member sees it.
+-- The group of a genesis, as one of its members sees it.
 use Rattle.std.specs.Prelude.{ℕ}
 use Rattle.pay_echo.specs.Broadcast.{Group}
 use Rattle.pay_link.specs.Genesis.{GenesisFields}

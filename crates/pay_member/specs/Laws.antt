@@ -1,8 +1,8 @@
--- What holds of histories that a member can have, and of what is brought to it, as statements. Each
--- is proved as a public law.
+-- Statements about histories that a member can have, and about what it receives. Each is proved as
+-- a public law.
 use Rattle.std.specs.Prelude.{◌≡◌, ◌≢◌, ◌↔◌, ℕ, ◌<◌, ◌≤◌, pos, ◌≤ℤ◌, List, [], ◌∷◌, ◌++◌, length}
 use Rattle.std.specs.Prelude.{slice_index, sum, All, Some}
-use Rattle.pay_frame.specs.declared.kind.Kind.TheVariants.{Want}
+use Rattle.pay_frame.specs.declared.body.Kind.TheVariants.{Want}
 use Rattle.pay_frame.specs.Frame.{FrameFields}
 use Rattle.pay_frame.specs.OneFrame.{IsOneFrame}
 use Rattle.pay_channel.specs.History as channel
@@ -16,7 +16,7 @@ use Rattle.pay_book.specs.Book.{IsSettled}
 use Rattle.pay_book.specs.Payment.{entries_of}
 use Rattle.pay_book.specs.Balance.{balance_at}
 use Rattle.pay_book.specs.Settled.{settled_entries}
-use Rattle.pay_member.specs.declared.entry.HistoryEntry.{HistoryEntry}
+use Rattle.pay_member.specs.declared.event.HistoryEntry.{HistoryEntry}
 use Rattle.pay_member.specs.Group.{group_in}
 use Rattle.pay_member.specs.Events.{events}
 use Rattle.pay_member.specs.Book.{book_after}
@@ -28,7 +28,7 @@ use Rattle.pay_member.specs.Bringing.{opened_in, event_in}
 abbrev pub NoneIsLegal : Type 0
 NoneIsLegal = (g : GenesisFields) (k : KeyFields) → Legal g k []
 
--- one owed entry more
+-- one more owed entry
 abbrev pub LegalByOneMore : Type 0
 LegalByOneMore =
     (g : GenesisFields) (k : KeyFields) (history : List HistoryEntry) (e : HistoryEntry)
@@ -39,14 +39,13 @@ PrefixIsLegal =
     (g : GenesisFields) (k : KeyFields) (history more : List HistoryEntry)
     → Legal g k (history ++ more) → Legal g k history
 
--- what a member takes may come to its group's channel
+-- what a member accepts may come to its group's channel
 abbrev pub LegalEventsMayCome : Type 0
 LegalEventsMayCome =
     (g : GenesisFields) (k : KeyFields) (history : List HistoryEntry)
     → IsKeysOf g k → Legal g k history → All (IsEvent (group_in g k.own)) (events history)
 
--- what is delivered in it, and so all that the accounts' lists have, is bytes that a frame has room
--- for
+-- what is delivered in it, and so all values of the accounts' lists, are bytes that fit a frame
 abbrev pub DeliveredAreValues : Type 0
 DeliveredAreValues =
     (g : GenesisFields) (k : KeyFields) (history : List HistoryEntry) (a s : ℕ) (v : List ℕ)
@@ -86,7 +85,7 @@ FrontsGrow =
     → slice_index (book_after g own (events history)).front a
     ≤ slice_index (book_after g own (events (history ++ more))).front a
 
--- ---- the book
+-- ---- the ledger
 
 abbrev pub BookIsSettled : Type 0
 BookIsSettled =
@@ -99,7 +98,7 @@ TotalIsKept =
     (g : GenesisFields) (own : ℕ) (events : List channel.Event)
     → sum (book_after g own events).balances ≡ sum g.opening
 
--- as signed numbers, so that nothing hides a debt
+-- with signed numbers, so that nothing hides a debt
 abbrev pub NobodyOwes : Type 0
 NobodyOwes =
     (g : GenesisFields) (own : ℕ) (events : List channel.Event) (a : ℕ)
@@ -114,15 +113,15 @@ EqualListsEqualBooksAfter =
     → list_of (group_in g own) events a ≡ list_of (group_in g other) others a)
     → book_after g own events ≡ book_after g other others
 
--- ---- what is brought
+-- ---- what is received
 
--- the frame that opens of bytes: the one that they are, where it opens and is no WANT
+-- the frame authenticated from bytes: the one that they are, if it is authenticated and is no WANT
 abbrev pub OpenedIn : Type 0
 OpenedIn =
     (k : KeyFields) (bytes : List ℕ) (f : FrameFields)
     → (opened_in k bytes ≡ Some f) ↔ (IsOneFrame bytes f × Opens k f × (f.body.kind ≢ Want))
 
--- it is an event exactly where its number is the next
+-- the frame is an event exactly if its number is the next one
 abbrev pub EventIn : Type 0
 EventIn =
     (k : KeyFields) (before : List channel.Event) (bytes : List ℕ) (e : channel.Event)

@@ -8,13 +8,13 @@ use Rattle.pay_link.specs.Keys.{KeyFields}
 use Rattle.pay_link.specs.Checked.{IsChecked}
 use Rattle.pay_member.specs.declared.event.Event.{Event}
 use Rattle.pay_member.specs.declared.event.Event.TheVariants.{Ask, Taken, Query}
-use Rattle.pay_member.specs.declared.entry.HistoryEntry.{HistoryEntry}
+use Rattle.pay_member.specs.declared.event.HistoryEntry.{HistoryEntry}
 use Rattle.pay_member.specs.Events.{events}
 use Rattle.pay_member.specs.Reply.{reply_to}
 use Rattle.pay_member.specs.Refusal.{refusal}
 
--- values in it are bytes, and a frame is within its limits, rightly tagged under its key, and no
--- WANT
+-- values in it are bytes, and a frame is within its limits, has the right tag under its key, and is
+-- no WANT
 abbrev pub IsStorable : Event → Type 0
 IsStorable (Ask v) = IsBytes v
 IsStorable (Taken c) = IsChecked c × IsBytes c.frame.body.value
@@ -27,17 +27,15 @@ pub record IsOwed (g : GenesisFields) (k : KeyFields) (before : List channel.Eve
   pub taken : refusal g k before e.event ≡ None
   pub reply : e.reply ≡ reply_to g k.own before e.event
 
--- each entry is one that may stand after those before it
+-- each entry may stand after the entries before it
 -- page: `Legal`: nothing refuses an entry's event after the entries before it, its reply is the one
---   owed, and its frame is rightly tagged and no WANT
--- term: legal: of a history: each entry is the one owed after those before it
--- term: history: all entries of a member, in order
+--   owed, and its frame has the right authentication tag and is no WANT
 pub record Legal (g : GenesisFields) (k : KeyFields) (history : List HistoryEntry) : Type 0 where
   pub each :
       (before : List HistoryEntry) (e : HistoryEntry) (after : List HistoryEntry)
       → history ≡ before ++ e ∷ after → IsOwed g k (events before) e
 
--- bytes that a frame has room for
+-- bytes that fit a frame
 pub record IsValue (v : List ℕ) : Type 0 where
   pub bytes : IsBytes v
   pub size : length v ≤ GREATEST_VALUE

@@ -14,6 +14,7 @@ pub mod Replay
 pub mod Answer
 pub mod Reading
 pub mod Questions
+pub mod OneAnswer
 pub mod Bringing
 pub mod OpeningLaws
 pub mod EventLaws

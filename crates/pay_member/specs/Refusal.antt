@@ -1,4 +1,4 @@
--- Why a member refuses an event, if it does: the first cause that holds.
+-- The reason why a member refuses an event, if it does: the first cause that holds.
 use Rattle.std.specs.Prelude.{ℕ, nat_le, nat_lt, Bool, ◌&&◌, ◌==◌, List, length, Option, Some, None}
 use Rattle.std.specs.Prelude.{if◌then◌else◌}
 use Rattle.pay_frame.specs.declared.limits.TheConstants.{GREATEST_VALUE, SEQS}
@@ -15,7 +15,7 @@ use Rattle.pay_member.specs.declared.fault.MemberFault.{MemberFault}
 use Rattle.pay_member.specs.declared.fault.MemberFault.TheVariants.{Spent, TooLong, Repeat, Gap}
 use Rattle.pay_member.specs.declared.fault.MemberFault.TheVariants.{WrongKey, NoAccount}
 
--- whether a frame is for the member with these keys, as a test
+-- the test of whether a frame is for the member with these keys
 abbrev pub is_for_member : KeyFields → CheckedFields → Bool
 is_for_member k c =
     (c.frame.to == k.own) && is_peer k c.frame.from && nat_lt c.frame.body.owner (length k.keys)
@@ -30,7 +30,7 @@ turn_refusal next number =
 
 -- page: `refusal`: the first cause to refuse an event: a value too long, then no number left; a
 --   frame for another member or under another key, then not the next number; an account that
---   isn't there
+--   doesn't exist
 abbrev pub refusal : GenesisFields → KeyFields → List channel.Event → Event → Option MemberFault
 refusal g k before (Ask v) =
     if nat_lt GREATEST_VALUE (length v) then Some TooLong

@@ -1,5 +1,5 @@
-//! Laws of the definitions: of the histories that a member can have, and of what is brought to it.
-//! Each function's contract is the law; its body only names the laws below that it stands on.
+//! Laws of the definitions: of the histories that a member can have, and of what it receives. Each
+//! function's contract is the law, and its body only names the laws below that the proof needs.
 
 ghost use Rattle.pay_member.specs.EventLaws.{NoEventsAtFirst, EventsByOneMore};
 ghost use Rattle.pay_member.specs.Laws.{NoneIsLegal, LegalByOneMore, PrefixIsLegal};
@@ -20,8 +20,8 @@ use pay_channel::laws::{delivered_for_good, grow_at_the_end, lists_grow};
 use pay_frame::one_frame_is;
 use pay_link::laws::judgement_opens;
 
-/// The frame that opens from bytes is all of them; it is for the member, from a peer, about a
-/// member's broadcast and rightly tagged, and it is no WANT.
+/// States that the frame authenticated from bytes is all of them. It is for the member, from a
+/// peer, about a member's broadcast and with the right tag, and it is no WANT.
 pub fn what_opens()
     ensures { WhatOpens }
 {
@@ -29,15 +29,15 @@ pub fn what_opens()
     judgement_opens();
 }
 
-/// The events of a history, one entry after the other: a query is none.
+/// States that the events of a history come one entry after the other. A query is no event.
 pub fn events_in_order()
     ensures first { NoEventsAtFirst }
     ensures one_more { EventsByOneMore }
 {}
 
-/// A history that a member can have stays one with an owed entry more, and so does each prefix
-/// of one. What it holds may come to the channel of the member's group, and what is delivered are
-/// values that a frame has room for.
+/// States which histories a member can have. Such a history stays one after one more entry that is
+/// owed, and so does each prefix of it. Its events may come to the channel of the member's group,
+/// and the delivered values fit a frame.
 // promise: histories grow
 pub fn legal_histories()
     ensures none { NoneIsLegal }
@@ -49,7 +49,7 @@ pub fn legal_histories()
     delivered_for_good();
 }
 
-/// Each refusal comes exactly where its own cause holds and no earlier one.
+/// States that each refusal comes exactly if its own cause holds and no earlier one.
 // promise: member's refusals
 pub fn refusal_causes()
     ensures too_long { TooLongCause }
@@ -60,8 +60,8 @@ pub fn refusal_causes()
     ensures no_account { NoAccountCause }
 {}
 
-/// As a history grows, so do its events, the sent list, each account's list and its settled
-/// entries, all at their ends alone, and no front moves back: nothing that settled at a member is
+/// States that as a history grows, its events, the sent list, each account's list and its settled
+/// entries grow only at their ends. No front moves back, so nothing that settled at a member is
 /// ever taken back.
 // promise: histories grow
 pub fn histories_grow()
@@ -77,8 +77,8 @@ pub fn histories_grow()
     largest_grows();
 }
 
-/// The book of any events has settled all that their lists allow. Its balances sum to what all
-/// accounts opened with, nobody owes, and equal lists have equal books.
+/// States that the ledger of any events has settled all that their lists allow. Its balances sum to
+/// what all accounts opened with, no balance is below zero, and equal lists have equal ledgers.
 // promise: member's book
 pub fn book_of_events()
     ensures settled { BookIsSettled }
@@ -92,9 +92,9 @@ pub fn book_of_events()
     equal_lists_equal_books();
 }
 
-/// What opens of bytes is the one frame that they are, where it opens with the member's keys and is
-/// no WANT. It is an event exactly where its number is the next one, and that event may come to the
-/// channel of the member's group.
+/// States what received bytes are. The frame authenticated from bytes is the one that they are, if
+/// the member's keys authenticate it and it is no WANT. It is an event exactly if its number is the
+/// next one, and that event may come to the channel of the member's group.
 // promise: brought bytes
 pub fn what_is_brought()
     ensures opened { OpenedIn }

@@ -1,55 +1,41 @@
-ghost use Rattle.std.specs.Prelude.{false, ◌≡◌, ◌≢◌, ◌<◌, ◌≤◌, ◌↔◌, ◌++◌, min, []};
-ghost use Rattle.std.specs.Prelude.{length, slice_get, slice_index, Some, None};
-ghost use Rattle.std.specs.Prelude.{MatchOption, IfOk, IfSome, OnOk, OnErr, IsOkUnless, IsTrue};
+ghost use Rattle.std.specs.Prelude.{◌≡◌, ◌≢◌, ◌<◌, ◌≤◌, ◌↔◌, ◌++◌, min, [], length};
+ghost use Rattle.std.specs.Prelude.{slice_get, slice_index, Some, None, MatchOption, IfOk, IfSome};
+ghost use Rattle.std.specs.Prelude.{OnOk, OnErr, IsOkUnless, IsTrue};
 ghost use Rattle.std.specs.Option.{option_and_then, option_copied, option_map, option_to_list};
-ghost use Rattle.pay_link.specs.Keys.{IsKeysOf, IsPeer};
-ghost use Rattle.pay_link.specs.Opening.{judgement};
+ghost use Rattle.pay_book.specs.Statement.{statement_of};
+ghost use Rattle.pay_channel.specs.History.{From, asks, list_of, out};
+ghost use Rattle.pay_channel.specs.Taken.{next};
 ghost use Rattle.pay_frame.specs.Lent.{fields_of};
 ghost use Rattle.pay_frame.specs.declared.limits.TheConstants.{MOST_MEMBERS};
 ghost use Rattle.pay_link.specs.Checked.{IsFor, bytes_of, checked_fields};
 ghost use Rattle.pay_link.specs.Fronts.{turn};
 ghost use Rattle.pay_link.specs.Genesis.{IsGenesis};
-ghost use Rattle.pay_book.specs.Statement.{statement_of};
-ghost use Rattle.pay_channel.specs.History.{From, asks, list_of, out};
-ghost use Rattle.pay_channel.specs.Taken.{next};
-ghost use Rattle.pay_member.specs.Group.{group_in};
-ghost use Rattle.pay_member.specs.Events.{events};
-ghost use Rattle.pay_member.specs.Book.{book_after};
-ghost use Rattle.pay_member.specs.Reply.{took_by, told_of};
-ghost use Rattle.pay_member.specs.Refusal.{refusal};
+ghost use Rattle.pay_link.specs.Keys.{IsKeysOf, IsPeer};
+ghost use Rattle.pay_link.specs.Opening.{judgement};
 ghost use Rattle.pay_member.specs.Answer.{IsAnswer, answer_of_ask, answer_of_take, answer_of_query};
-ghost use Rattle.pay_member.specs.Reading.{entries_shown, fetched_bodies, state_of, waiting_shown};
-ghost use Rattle.pay_member.specs.Legal.{Legal};
-ghost use Rattle.pay_member.specs.Remembering.{Remembers, HasForgotten};
-ghost use Rattle.pay_member.specs.Lies.{IsFound};
-ghost use Rattle.pay_member.specs.Member.{with_entry};
+ghost use Rattle.pay_member.specs.Book.{book_after};
 ghost use Rattle.pay_member.specs.Bringing.{IsOutcome, answer_to, event_in, event_of_frame};
-ghost use Rattle.pay_member.specs.Bringing.{incoming_at};
-ghost use Rattle.pay_member.specs.Bringing.{opened_in, outcome_to, unless_want, want_after};
-ghost use Rattle.pay_member.specs.Bringing.{with_brought, with_taken, with_want};
+ghost use Rattle.pay_member.specs.Bringing.{incoming_at, opened_in, outcome_to, unless_want};
+ghost use Rattle.pay_member.specs.Bringing.{want_after, with_brought, with_taken, with_want};
+ghost use Rattle.pay_member.specs.Events.{events};
+ghost use Rattle.pay_member.specs.Group.{group_in};
+ghost use Rattle.pay_member.specs.Legal.{Legal};
+ghost use Rattle.pay_member.specs.Member.{with_entry};
+ghost use Rattle.pay_member.specs.Reading.{fetched_bodies, state_of};
+ghost use Rattle.pay_member.specs.Refusal.{refusal};
+ghost use Rattle.pay_member.specs.Reply.{took_by, told_of};
 ghost use Rattle.pay_member.specs.Serving.{after_frame, want_of};
 
-use crate::ask_fault::AskFault;
-use crate::asked_value::AskedValue;
-use crate::bringing::open_frame;
-use crate::brought::Brought;
-use crate::entry::HistoryEntry;
-use crate::event::{Event, asked_is_kept, taken_is_kept};
-use crate::fault::MemberFault;
-use crate::incoming::Incoming;
-use crate::ledger::Ledger;
-use crate::lie::{Lie, note_lie};
-use crate::outcome::Outcome;
-use crate::query_fault::QueryFault;
-use crate::received::Received;
-use crate::reply::Reply;
-use crate::standing::PaymentState;
-use crate::take_fault::TakeFault;
-use crate::told::Told;
-use crate::took::Took;
+use crate::bringing::{Brought, Incoming, Outcome, open_frame};
+use crate::event::{
+    AskedValue, Event, HistoryEntry, Reply, Told, Took, asked_is_kept, taken_is_kept,
+};
+use crate::fault::{AskFault, MemberFault, QueryFault, TakeFault};
+use crate::ledger::{Ledger, Lie, Received, note_lie};
+use crate::question::PaymentState;
 use crate::view::MemberView;
 use pay_book::laws::settled_book_is_one;
-use pay_book::{Excerpt, Line, Settle};
+use pay_book::{Line, Settle};
 use pay_channel::EventRef;
 use pay_channel::laws::{
     a_channel_follows, lists_grow, nothing_at_first, one_event_more, sends_are_asks, taken_in_order,
@@ -63,20 +49,20 @@ use pay_link::{Checked, Fronts, Genesis, Keys, LinkFault, Opened, laws};
 use std::alloc::{AllocError, Global};
 use std::marker::Model;
 
-/// How many bodies one `fetch` gives at most.
+/// The most bodies that one `fetch` returns.
 pub const MOST_FETCHED: usize = 16;
 
-/// One member: its group, its keys, what it took and replied, and its broadcasts and book as they
-/// follow from that.
+/// A member: its group, its keys, its events and replies, and the broadcasts and ledger that follow
+/// from them.
 ///
-/// Its type keeps that the history is one that a member can have, and that all that it shows
-/// follows from it.
+/// Its type keeps that the history is one that a member can have, and that all that the member
+/// shows follows from it.
 #[derive(Drop)]
 pub struct Member<I: Instance + Drop, B: Settle + Drop> {
     genesis: Genesis,
     keys: Keys,
     fronts: Fronts,
-    // of each member the lie that it told last, if it told one
+    // for each member its last protocol violation, if there is one
     lies: Vec<Option<Lie>>,
     pub(crate) ledger: Ledger<I, B>,
     history: Vec<HistoryEntry>,
@@ -95,7 +81,7 @@ impl<I: Instance + Drop, B: Settle + Drop> Model for Member<I, B> {
 }
 
 impl<I: Instance + Drop, B: Settle + Drop> Member<I, B> {
-    /// A member that took nothing. The keys are one member's of that genesis.
+    /// Creates a member without events. The keys belong to a member of `genesis`.
     pub fn new(alloc: Global, genesis: Genesis, keys: Keys) -> Result<Member<I, B>, AllocError>
         requires { IsKeysOf genesis keys }
         ensures { IfOk result (λ member.
@@ -115,10 +101,10 @@ impl<I: Instance + Drop, B: Settle + Drop> Member<I, B> {
         })
     }
 
-    /// Broadcasts a value of the member's own, and returns the number that it got.
+    /// Broadcasts `value`, a value of the member's own, and returns its number.
     ///
-    /// Refuses a value of more than 1,024 bytes (`TooLong`) and one after 65,536 others (`Spent`).
-    /// A refused value is dropped, and the member is unchanged.
+    /// Refuses a value of more than 1,024 bytes (`TooLong`) and a value after 65,536 others
+    /// (`Spent`). A refused value is dropped, and the member is unchanged.
     // promise: nothing changes (err); member's refusals (refused, err)
     // promise: member's replies (asked, entry)
     pub fn ask(&mut self, alloc: Global, stamp: u16, value: Bytes) -> Result<u32, AskFault>
@@ -158,11 +144,11 @@ impl<I: Instance + Drop, B: Settle + Drop> Member<I, B> {
         Ok(seq)
     }
 
-    /// Takes a frame of another member, and returns what followed from it.
+    /// Accepts `checked`, a frame of another member, and returns what followed from it.
     ///
-    /// Refuses one that isn't for this member or was opened under another key (`WrongKey`), and
-    /// then one whose number isn't the next from its sender (`Repeat`, `Gap`). A refused frame is
-    /// dropped, and the member is unchanged.
+    /// Refuses a frame that isn't for this member or was authenticated under another key
+    /// (`WrongKey`). Then it refuses a frame that isn't the next one from its sender (`Repeat`,
+    /// `Gap`). A refused frame is dropped, and the member is unchanged.
     // promise: nothing changes (err); member's refusals (refused, err)
     // promise: member's replies (took, entry)
     pub fn take(&mut self, alloc: Global, stamp: u16, checked: Checked) -> Result<Took, TakeFault>
@@ -209,8 +195,7 @@ impl<I: Instance + Drop, B: Settle + Drop> Member<I, B> {
             event: Event::Taken(checked),
             reply: Reply::Took(took),
         });
-        // as many frames came from one member as there are entries at most, and these can be
-        // counted
+        // there are at most as many frames from one member as entries, and entries can be counted
         let entries = self.history.len();
         prove!(entries > 0);
         self.fronts.advance(from);
@@ -218,11 +203,11 @@ impl<I: Instance + Drop, B: Settle + Drop> Member<I, B> {
         Ok(took)
     }
 
-    /// Reads and opens bytes, and takes the frame that they are.
+    /// Reads and authenticates `bytes`, and accepts the frame that they are.
     ///
-    /// Where a frame opened that is no WANT, the answer has the WANT to its sender for what is next
-    /// after the call. Memory can be refused only to a frame that is the next one, and leaves the
-    /// member unchanged.
+    /// If a frame was authenticated that is no WANT, the answer has the WANT to its sender for what
+    /// is next after the call. Only a frame that is the next one can fail for lack of memory, and
+    /// then the member is unchanged.
     // promise: nothing changes (err); brought bytes
     pub fn bring<T: Tagger>(
         &mut self,
@@ -254,7 +239,7 @@ impl<I: Instance + Drop, B: Settle + Drop> Member<I, B> {
         Ok(received.with_want(tagger, self.keys(), from))
     }
 
-    /// The same without the WANT, which spares its tag.
+    /// Does with `bytes` what `bring` does, but without the WANT, which saves its tag.
     // promise: brought bytes
     pub fn bring_unanswered<T: Tagger>(
         &mut self,
@@ -280,8 +265,8 @@ impl<I: Instance + Drop, B: Settle + Drop> Member<I, B> {
         }
     }
 
-    /// The same of a frame by itself that is for this member, without its bytes: they would open to
-    /// it, so no tag is computed.
+    /// Accepts `owned`, a frame by itself that is for this member, as `bring_unanswered` does with
+    /// its bytes. They would be authenticated, so no tag is computed.
     // promise: brought bytes
     pub fn bring_owned(
         &mut self,
@@ -307,7 +292,7 @@ impl<I: Instance + Drop, B: Settle + Drop> Member<I, B> {
         self.take_mine(alloc, stamp, owned)
     }
 
-    // Whether this is the next number from a member.
+    // Returns `Ok` if `number` is the next one from the member `from`.
     fn judge(&self, from: u16, number: u64) -> Result<(), LinkFault>
         requires { from < length self.now.keys.keys }
         ensures { result ≡ turn (next from (events self.now.history)) number }
@@ -315,7 +300,7 @@ impl<I: Instance + Drop, B: Settle + Drop> Member<I, B> {
         self.fronts.judge(from, number)
     }
 
-    // Takes a frame that was read already.
+    // Accepts a frame that was read already.
     pub(crate) fn bring_frame<T: Tagger>(
         &mut self,
         alloc: Global,
@@ -355,8 +340,8 @@ impl<I: Instance + Drop, B: Settle + Drop> Member<I, B> {
         }
     }
 
-    // Takes a frame that opened for this member and is no WANT. One that isn't the next from its
-    // sender isn't owned first.
+    // Accepts a frame that was authenticated for this member and is no WANT. A frame that isn't the
+    // next from its sender isn't owned first.
     fn take_opened(
         &mut self,
         alloc: Global,
@@ -382,7 +367,7 @@ impl<I: Instance + Drop, B: Settle + Drop> Member<I, B> {
         self.take_mine(alloc, stamp, checked)
     }
 
-    // Takes a frame that is for this member, and says what came of it.
+    // Accepts a frame that is for this member, and returns what came of it.
     fn take_mine(
         &mut self,
         alloc: Global,
@@ -408,8 +393,8 @@ impl<I: Instance + Drop, B: Settle + Drop> Member<I, B> {
         }
     }
 
-    /// Tells the state of an account, and notes that it was asked for. Refuses an account that
-    /// isn't there.
+    /// Returns the state of `account`, and records the query. Refuses an account that doesn't
+    /// exist.
     // promise: nothing changes (err); member's refusals (refused, err)
     // promise: member's replies (told, entry)
     pub fn query(&mut self, _alloc: Global, stamp: u16, account: u16) -> Result<Told, QueryFault>
@@ -442,8 +427,8 @@ impl<I: Instance + Drop, B: Settle + Drop> Member<I, B> {
         Ok(told)
     }
 
-    /// Hands an event in: asks, takes or queries. A refused event is dropped, and the member is
-    /// unchanged.
+    /// Hands `event` in: a submitted value, a frame or a query. A refused event is dropped, and the
+    /// member is unchanged.
     // promise: order of refusals; member's replies
     pub fn hand_in(&mut self, alloc: Global, stamp: u16, event: Event) -> Result<Reply, MemberFault>
         ensures refused { MatchOption
@@ -462,7 +447,7 @@ impl<I: Instance + Drop, B: Settle + Drop> Member<I, B> {
         }
     }
 
-    /// What the ledger began with.
+    /// Returns the genesis.
     // promise: readings
     pub fn genesis(&self) -> &Genesis
         ensures value { result.now ≡ self.now.genesis }
@@ -471,7 +456,7 @@ impl<I: Instance + Drop, B: Settle + Drop> Member<I, B> {
         &self.genesis
     }
 
-    /// The member's own number, and the keys that it shares with its peers.
+    /// Returns the member's own number, and the keys that it shares with its peers.
     // promise: readings
     pub fn keys(&self) -> &Keys
         ensures value { result.now ≡ self.now.keys }
@@ -480,7 +465,7 @@ impl<I: Instance + Drop, B: Settle + Drop> Member<I, B> {
         &self.keys
     }
 
-    /// The frame that bytes are, where it opens at this member and is no WANT.
+    /// Returns the frame that `bytes` are, if this member authenticates it and it is no WANT.
     pub fn opens<'a, T: Tagger>(&self, tagger: &T, bytes: &'a [u8]) -> Option<Opened<'a>>
         ensures { option_map (λ opened. opened.frame) result ≡ opened_in self.now.keys bytes.now }
     {
@@ -495,7 +480,7 @@ impl<I: Instance + Drop, B: Settle + Drop> Member<I, B> {
         }
     }
 
-    /// All that the member took and replied, oldest first.
+    /// Returns all that the member accepted and replied, oldest first.
     // promise: legal history (legal); readings (value)
     pub fn history(&self) -> &[HistoryEntry]
         ensures value { result.now ≡ self.now.history }
@@ -504,19 +489,21 @@ impl<I: Instance + Drop, B: Settle + Drop> Member<I, B> {
         self.history.as_slice()
     }
 
-    /// What can be read of it.
+    /// Returns what can be read of the member.
     pub fn view(&self) -> MemberView<'_, I, B>
         ensures { result ≡ self.now }
     {
-        MemberView::new(
-            &self.genesis,
-            &self.keys,
-            &self.ledger,
-            self.history.as_slice(),
-        )
+        MemberView {
+            genesis: &self.genesis,
+            keys: &self.keys,
+            fronts: &self.fronts,
+            lies: &self.lies,
+            ledger: &self.ledger,
+            history: self.history.as_slice(),
+        }
     }
 
-    /// The body at a place of all that the member sent to all.
+    /// Returns the body at `place` of all that the member sent to all.
     // promise: readings
     pub fn sent(&self, place: u64) -> Option<&Body>
         ensures { option_copied result
@@ -526,7 +513,7 @@ impl<I: Instance + Drop, B: Settle + Drop> Member<I, B> {
         self.ledger.sent(place as usize)
     }
 
-    /// The same, to be shared.
+    /// Returns the body at `place` of all that the member sent to all, in a form that copies share.
     pub fn sent_shared(&self, place: u64) -> Option<&SharedBody>
         ensures { option_copied result
             ≡ slice_get (out (group_in self.now.genesis self.now.keys.own)
@@ -535,7 +522,7 @@ impl<I: Instance + Drop, B: Settle + Drop> Member<I, B> {
         self.ledger.sent_shared(place as usize)
     }
 
-    /// How many bodies the member sent to all.
+    /// Returns how many bodies the member sent to all.
     // promise: readings
     pub fn sent_len(&self) -> u64
         ensures { result ≡ length (out (group_in self.now.genesis self.now.keys.own)
@@ -544,8 +531,8 @@ impl<I: Instance + Drop, B: Settle + Drop> Member<I, B> {
         self.ledger.sent_len() as u64
     }
 
-    /// Copies of the bodies that the member sent to all, from a place on: at most `max`, and at
-    /// most 16.
+    /// Returns copies of the bodies that the member sent to all, from the place `from` on: at most
+    /// `max`, and at most 16.
     // promise: readings
     pub fn fetch(&self, alloc: Global, from: usize, max: usize) -> Result<Vec<Body>, AllocError>
         ensures { IfOk result (λ bodies. bodies.items
@@ -555,38 +542,16 @@ impl<I: Instance + Drop, B: Settle + Drop> Member<I, B> {
         self.view().fetch(alloc, from, max)
     }
 
-    /// Whether the member has forgotten what it sent: its own list had a value under a number under
-    /// which it hadn't been asked for that one. Each value is looked at once, as it is listed.
-    // promise: readings (evidence, remembers); forgetting
-    pub fn has_forgotten(&self) -> bool
-        ensures evidence { IsTrue result
-            ↔ HasForgotten (group_in self.now.genesis self.now.keys.own)
-            (events self.now.history) }
-        ensures remembers { (result ≡ false)
-            ↔ Remembers (group_in self.now.genesis self.now.keys.own) (events self.now.history) }
-    {
-        self.ledger.has_forgotten()
-    }
-
-    /// The lie that a member told last to this one, if it told any: what no correct member says.
-    // promise: lies
-    pub fn lie(&self, peer: u16) -> Option<Lie>
-        requires { peer < self.now.genesis.members }
-        ensures { IsFound (events self.now.history) peer result }
-    {
-        self.lies[usize::from(peer)]
-    }
-
-    /// The number that the next frame from a member has.
+    /// Returns the number of the next frame from `peer`.
     // promise: readings
     pub fn next(&self, peer: u16) -> u64
         requires { peer < self.now.genesis.members }
         ensures { result ≡ next peer (events self.now.history) }
     {
-        self.fronts.next(peer)
+        self.view().next(peer)
     }
 
-    /// How many of an account's entries are settled.
+    /// Returns how many entries of `account` are settled.
     // promise: readings
     pub fn front(&self, account: u16) -> u32
         requires { account < self.now.genesis.members }
@@ -597,7 +562,7 @@ impl<I: Instance + Drop, B: Settle + Drop> Member<I, B> {
         self.view().front(account)
     }
 
-    /// How many entries are settled of each account.
+    /// Returns how many entries are settled of each account.
     // promise: readings
     pub fn fronts(&self, alloc: Global) -> Result<Vec<u32>, AllocError>
         ensures value { IfOk result (λ fronts. fronts.items
@@ -607,7 +572,7 @@ impl<I: Instance + Drop, B: Settle + Drop> Member<I, B> {
         self.view().fronts(alloc)
     }
 
-    /// An account's balance, in the unit of the genesis's opening balances.
+    /// Returns the balance of `account`, in the unit of the genesis's opening balances.
     // promise: readings
     pub fn balance(&self, account: u16) -> u64
         requires { account < self.now.genesis.members }
@@ -618,7 +583,7 @@ impl<I: Instance + Drop, B: Settle + Drop> Member<I, B> {
         self.view().balance(account)
     }
 
-    /// How far the value under a number of an account has come.
+    /// Returns how far the value of `owner` with the number `seq` has come.
     // promise: readings
     pub fn state(&self, owner: u16, seq: u32) -> PaymentState
         requires { owner < self.now.genesis.members }
@@ -628,7 +593,7 @@ impl<I: Instance + Drop, B: Settle + Drop> Member<I, B> {
         self.view().state(owner, seq)
     }
 
-    /// The lines of an account's statement.
+    /// Returns the lines of the statement of `account`.
     // promise: readings
     pub fn statement(&self, alloc: Global, account: u16) -> Result<Vec<Line>, AllocError>
         requires { account < self.now.genesis.members }
@@ -639,25 +604,5 @@ impl<I: Instance + Drop, B: Settle + Drop> Member<I, B> {
             (events self.now.history)).front) account) }
     {
         self.view().statement(alloc, account)
-    }
-
-    /// What settled of an account from a number on: at most 1,000 entries.
-    // promise: readings
-    pub fn entries(&self, alloc: Global, account: u16, from: u64) -> Result<Excerpt, AllocError>
-        requires { account < self.now.genesis.members }
-        ensures { IfOk result (λ excerpt. excerpt ≡ entries_shown self.now.genesis
-            self.now.keys.own (events self.now.history) account from) }
-    {
-        self.view().entries(alloc, account, from)
-    }
-
-    /// What is known of an account and isn't settled: the first 1,000 entries.
-    // promise: readings
-    pub fn waiting(&self, alloc: Global, account: u16) -> Result<Excerpt, AllocError>
-        requires { account < self.now.genesis.members }
-        ensures { IfOk result (λ excerpt. excerpt ≡ waiting_shown self.now.genesis
-            self.now.keys.own (events self.now.history) account) }
-    {
-        self.view().waiting(alloc, account)
     }
 }

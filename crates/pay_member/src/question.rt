@@ -7,23 +7,36 @@ ghost use Rattle.pay_member.specs.declared.reading.Reading.{Reading};
 ghost use Rattle.pay_member.specs.declared.reading.Reading.TheVariants.{Sent};
 ghost use Rattle.pay_member.specs.declared.reading.Reading.TheVariants as reading;
 
+use crate::ledger::Lie;
 use crate::reading::{Bodies, Reading, SettledCounts};
 use crate::same::{are_same_bodies, is_alone, is_same_excerpt, is_same_statement};
-use crate::standing::PaymentState;
 use crate::view::MemberView;
 use pay_book::{Excerpt, Settle, Statement};
 use pay_echo::Instance;
 use pay_frame::Body;
 use std::alloc::{AllocError, Global};
 
-/// A question to a member, which has an answer of a type of its own.
+/// The progress of a payment at a member.
+#[derive(Clone, Copy, Debug, PartialEq, Eq)]
+pub enum PaymentState {
+    /// Nothing is known of the payment.
+    Unknown,
+    /// The member itself submitted the payment, and has not delivered it in order yet.
+    Asked,
+    /// The payment is delivered in order, and waits for money or for the payments before it.
+    Waiting,
+    /// All entries of the payment's value are settled.
+    Settled,
+}
+
+/// A question to a member. Each question has its own type of answers.
 pub trait Question: Copy {
     type Answer: Drop;
 
-    // The question with an answer.
+    // The reading of the question with an answer.
     ghost reading: { Self → Self.Answer → Reading };
 
-    /// Asks a member, which is unchanged.
+    /// Returns the member's answer. The member is unchanged.
     // promise: readings
     fn ask<I: Instance + Drop, B: Settle + Drop>(
         self,
@@ -32,20 +45,21 @@ pub trait Question: Copy {
     ) -> Result<Self::Answer, AllocError>
         ensures { IfOk result (λ answer. Shows view.now (reading self answer)) };
 
-    /// The question with a copy of an answer.
+    /// Returns the question with a copy of `answer`.
     fn to_reading(self, alloc: Global, answer: &Self::Answer) -> Result<Reading, AllocError>
         ensures { IfOk result (λ copy. copy ≡ reading self answer.now) };
 
-    /// Whether a reading is of this question with this answer.
+    /// Returns whether `other` is this question with this `answer`.
     fn is_reading(self, answer: &Self::Answer, other: &Reading) -> bool
         ensures { IsTrue result ↔ (other.now ≡ reading self answer.now) };
 
-    /// Whether it is the question for the body at a number, which is the answer alone.
+    /// Returns whether this is the question for the body at `number`, and `body` alone is the
+    /// answer.
     fn is_of_body(self, answer: &Self::Answer, number: usize, body: &Body) -> bool
         ensures { IsTrue result
             ↔ (reading self answer.now ≡ Sent number 1 (body.now ∷ [])) };
 
-    /// The account whose payments an answer tells one by one, if it does.
+    /// Returns the account, if there is one, with payments that an answer reports one by one.
     fn account_told(self) -> Option<u16>
         ensures { (answer : Self.Answer) → account_told (reading self answer) ≡ result };
 
@@ -54,7 +68,8 @@ pub trait Question: Copy {
         → Shows m (reading question one) → Shows m (reading question other) → one ≡ other };
 }
 
-/// The bodies that the member sent to all, from a place on: at most `max`, and at most 16.
+/// A question for the bodies that the member sent to all, from a place on: at most `max`, and at
+/// most 16.
 #[derive(Clone, Copy, Debug, PartialEq, Eq)]
 pub struct SentFrom {
     pub from: usize,
@@ -104,7 +119,7 @@ impl Question for SentFrom {
     ghost one_answer = { λ q m one other is also. is ∙ sym also };
 }
 
-/// How far the payment under a number of an account has come.
+/// A question for how far the payment under a number of an account has come.
 #[derive(Clone, Copy, Debug, PartialEq, Eq)]
 pub struct StateOf {
     pub owner: u16,
@@ -159,7 +174,7 @@ impl Question for StateOf {
     ghost one_answer = { λ q m one other is also. is ∙ sym also };
 }
 
-/// The lines of an account's statement, and its balance.
+/// A question for the lines of an account's statement, and its balance.
 #[derive(Clone, Copy, Debug, PartialEq, Eq)]
 pub struct StatementOf(pub u16);
 
@@ -217,7 +232,7 @@ impl Question for StatementOf {
     ghost one_answer = { λ q m one other is also. is ∙ sym also };
 }
 
-/// What settled of an account from a number on: at most 1,000 entries.
+/// A question for what settled of an account from a number on: at most 1,000 entries.
 #[derive(Clone, Copy, Debug, PartialEq, Eq)]
 pub struct EntriesOf {
     pub account: u16,
@@ -276,7 +291,7 @@ impl Question for EntriesOf {
     ghost one_answer = { λ q m one other is also. is ∙ sym also };
 }
 
-/// What is known of an account and isn't settled: the first 1,000 entries.
+/// A question for what is known of an account and isn't settled: the first 1,000 entries.
 #[derive(Clone, Copy, Debug, PartialEq, Eq)]
 pub struct WaitingOf(pub u16);
 
@@ -326,7 +341,7 @@ impl Question for WaitingOf {
     ghost one_answer = { λ q m one other is also. is ∙ sym also };
 }
 
-/// How many entries are settled of each account.
+/// A question for how many entries of each account are settled.
 #[derive(Clone, Copy, Debug, PartialEq, Eq)]
 pub struct AllFronts;
 
@@ -367,7 +382,100 @@ impl Question for AllFronts {
     ghost one_answer = { λ q m one other is also. is ∙ sym also };
 }
 
-// A copy of entries, if there are any.
+/// Asks whether the member has lost state, by its own history.
+#[derive(Clone, Copy, Debug, PartialEq, Eq)]
+pub struct OwnForgetting;
+
+impl Question for OwnForgetting {
+    ghost use Rattle.pay_member.specs.Group.{group_in};
+    ghost use Rattle.pay_member.specs.Events.{events};
+    ghost use Rattle.pay_member.specs.Remembering.{HasForgotten};
+    ghost use Rattle.pay_member.specs.OneAnswer.{one_truth};
+
+    type Answer = bool;
+
+    ghost reading = { λ q says. reading.Forgetting says };
+
+    fn ask<I: Instance + Drop, B: Settle + Drop>(
+        self,
+        _alloc: Global,
+        view: &MemberView<'_, I, B>,
+    ) -> Result<bool, AllocError> {
+        Ok(view.has_forgotten())
+    }
+
+    fn to_reading(self, _alloc: Global, says: &bool) -> Result<Reading, AllocError> {
+        Ok(Reading::Forgetting(*says))
+    }
+
+    fn is_reading(self, answer: &bool, other: &Reading) -> bool {
+        match other {
+            Reading::Forgetting(says) => says == answer,
+            _ => false,
+        }
+    }
+
+    fn is_of_body(self, _answer: &bool, _number: usize, _body: &Body) -> bool {
+        false
+    }
+
+    fn account_told(self) -> Option<u16> {
+        None
+    }
+
+    ghost one_answer = { λ q m one other is also. one_truth
+        (HasForgotten (group_in m.genesis m.keys.own) (events m.history)) one other is also };
+}
+
+/// Asks for the last protocol violation of a peer.
+#[derive(Clone, Copy, Debug, PartialEq, Eq)]
+pub struct LastLieOf(pub u16);
+
+impl Question for LastLieOf {
+    ghost use Rattle.pay_member.specs.Events.{events};
+    ghost use Rattle.pay_member.specs.OneAnswer.{one_lie};
+
+    type Answer = Option<Lie>;
+
+    ghost reading = { λ q lie. reading.LastLie q.0 lie };
+
+    fn ask<I: Instance + Drop, B: Settle + Drop>(
+        self,
+        _alloc: Global,
+        view: &MemberView<'_, I, B>,
+    ) -> Result<Option<Lie>, AllocError> {
+        if self.0 >= view.genesis().members() {
+            return Ok(None);
+        }
+        Ok(view.lie(self.0))
+    }
+
+    fn to_reading(self, _alloc: Global, lie: &Option<Lie>) -> Result<Reading, AllocError> {
+        Ok(Reading::LastLie {
+            peer: self.0,
+            lie: *lie,
+        })
+    }
+
+    fn is_reading(self, answer: &Option<Lie>, other: &Reading) -> bool {
+        match other {
+            Reading::LastLie { peer, lie } => *peer == self.0 && lie == answer,
+            _ => false,
+        }
+    }
+
+    fn is_of_body(self, _answer: &Option<Lie>, _number: usize, _body: &Body) -> bool {
+        false
+    }
+
+    fn account_told(self) -> Option<u16> {
+        None
+    }
+
+    ghost one_answer = { λ q m one other is also. one_lie m q.0 one other is also };
+}
+
+// Returns a copy of entries, if there are any.
 fn copy_of(alloc: Global, excerpt: &Option<Excerpt>) -> Result<Option<Excerpt>, AllocError>
     ensures { IfOk result (λ copy. copy ≡ excerpt.now) }
 {

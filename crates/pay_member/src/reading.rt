@@ -2,8 +2,11 @@ ghost use Rattle.std.specs.Prelude.{◌≡◌, ◌≤◌, ◌↔◌, IfOk, IsTru
 ghost use Rattle.pay_frame.specs.declared.limits.TheConstants.{MOST_MEMBERS};
 ghost use Rattle.pay_member.specs.Questions.{Shows};
 
-use crate::question::{AllFronts, EntriesOf, Question, SentFrom, StateOf, StatementOf, WaitingOf};
-use crate::standing::PaymentState;
+use crate::ledger::Lie;
+use crate::question::{
+    AllFronts, EntriesOf, LastLieOf, OwnForgetting, PaymentState, Question, SentFrom, StateOf,
+    StatementOf, WaitingOf,
+};
 use crate::view::MemberView;
 use pay_book::{Excerpt, Settle, Statement};
 use pay_echo::Instance;
@@ -11,16 +14,16 @@ use pay_frame::Body;
 use std::alloc::{AllocError, Global};
 use std::marker::Model;
 
-/// A question to a member with its answer, which is none about an account that isn't there.
+/// A question to a member with its answer. There is no answer about an account that doesn't exist.
 #[derive(Drop)]
 pub enum Reading {
-    /// The bodies that it sent to all, from a place on: at most so many.
+    /// The bodies that the member sent to all, from a place on: at most `max`.
     Sent {
         from: usize,
         max: usize,
         bodies: Bodies,
     },
-    /// How far a payment has come.
+    /// The progress of a payment.
     State {
         owner: u16,
         seq: u32,
@@ -42,12 +45,19 @@ pub enum Reading {
         account: u16,
         excerpt: Option<Excerpt>,
     },
-    /// How many entries are settled of each account.
+    /// The counts of settled entries of all accounts.
     Fronts(SettledCounts),
+    /// True if the member has lost state.
+    Forgetting(bool),
+    /// The last protocol violation of a peer, if there is one.
+    LastLie {
+        peer: u16,
+        lie: Option<Lie>,
+    },
 }
 
 impl Reading {
-    /// Whether a member answers the question so.
+    /// Returns whether the member of `view` gives this answer to the question.
     // promise: readings
     pub fn is_shown<I: Instance + Drop, B: Settle + Drop>(
         &self,
@@ -72,10 +82,12 @@ impl Reading {
             }
             Reading::Waiting { account, .. } => self.is_of(alloc, view, WaitingOf(*account)),
             Reading::Fronts(_) => self.is_of(alloc, view, AllFronts),
+            Reading::Forgetting(_) => self.is_of(alloc, view, OwnForgetting),
+            Reading::LastLie { peer, .. } => self.is_of(alloc, view, LastLieOf(*peer)),
         }
     }
 
-    // The same, of this question.
+    // Returns whether a member gives this answer to `question`.
     fn is_of<I: Instance + Drop, B: Settle + Drop, Q: Question>(
         &self,
         alloc: Global,
@@ -106,28 +118,28 @@ impl Model for Bodies {
 }
 
 impl Bodies {
-    /// Bodies in the order in which they were sent.
+    /// Creates a list of `bodies`, in the order in which they were sent.
     pub fn new(bodies: Vec<Body>) -> Bodies
         ensures { result ≡ bodies.items }
     {
         Bodies { bodies }
     }
 
-    /// The bodies, in the order in which they were sent.
+    /// Returns the bodies, in the order in which they were sent.
     pub fn as_slice(&self) -> &[Body]
         ensures { result.now ≡ self.now }
     {
         self.bodies.as_slice()
     }
 
-    /// The same bodies, given out.
+    /// Returns the bodies as a vector.
     pub fn into_vec(self) -> Vec<Body>
         ensures { result.items ≡ self }
     {
         self.bodies
     }
 
-    /// Equal bodies, unless memory is refused.
+    /// Returns a copy of the bodies.
     pub(crate) fn copy(&self, alloc: Global) -> Result<Bodies, AllocError>
         ensures { IfOk result (λ copy. copy ≡ self.now) }
     {
@@ -139,7 +151,7 @@ impl Bodies {
     }
 }
 
-/// How many entries are settled of each account, of 128 accounts at most. Contracts see it as a
+/// The counts of settled entries, one for each of at most 128 accounts. Contracts see them as a
 /// list.
 #[derive(Drop)]
 pub struct SettledCounts {
@@ -158,7 +170,7 @@ impl Model for SettledCounts {
 }
 
 impl SettledCounts {
-    /// One count for each account, from account 0 on.
+    /// Creates a list of `counts`, one for each account, from account 0 on.
     pub fn new(counts: Vec<u32>) -> SettledCounts
         requires { length counts.items ≤ MOST_MEMBERS }
         ensures { result ≡ counts.items }
@@ -166,7 +178,7 @@ impl SettledCounts {
         SettledCounts { counts }
     }
 
-    /// The counts, from account 0 on.
+    /// Returns the counts, from account 0 on.
     pub fn as_slice(&self) -> &[u32]
         ensures value { result.now ≡ self.now }
         ensures few { length result.now ≤ MOST_MEMBERS }
@@ -174,7 +186,7 @@ impl SettledCounts {
         self.counts.as_slice()
     }
 
-    /// The same counts, given out.
+    /// Returns the counts as a vector.
     pub fn into_vec(self) -> Vec<u32>
         ensures value { result.items ≡ self }
         ensures few { length result.items ≤ MOST_MEMBERS }
@@ -182,7 +194,7 @@ impl SettledCounts {
         self.counts
     }
 
-    /// Equal counts, unless memory is refused.
+    /// Returns a copy of the counts.
     pub(crate) fn copy(&self, alloc: Global) -> Result<SettledCounts, AllocError>
         ensures { IfOk result (λ copy. copy ≡ self.now) }
     {

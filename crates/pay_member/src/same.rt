@@ -1,11 +1,11 @@
-//! Whether two answers are the same.
+//! Tests of whether two answers are equal.
 
 ghost use Rattle.std.specs.Prelude.{◌≡◌, ◌↔◌, [], ◌∷◌, IsTrue};
 
 use pay_book::{Excerpt, Line, ShownEntry, Statement};
 use pay_frame::{Body, Bytes};
 
-/// Whether two bodies are the same.
+/// Returns whether the bodies `a` and `b` are equal.
 pub fn is_same_body(a: &Body, b: &Body) -> bool
     ensures { IsTrue result ↔ (a.now ≡ b.now) }
 {
@@ -94,7 +94,7 @@ pub(crate) fn are_same_bodies(a: &[Body], b: &[Body]) -> bool
     true
 }
 
-/// Whether bodies are this one alone.
+/// Returns whether `bodies` has `body` and nothing else.
 pub fn is_alone(bodies: &[Body], body: &Body) -> bool
     ensures { IsTrue result ↔ (bodies.now ≡ body.now ∷ []) }
 {

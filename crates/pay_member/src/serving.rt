@@ -1,23 +1,23 @@
-//! How a member is fed from a peer's stream.
+//! The loop that feeds a member from a peer's stream.
 
 ghost use Rattle.std.specs.Prelude.{◌≡◌, OnOk};
-ghost use Rattle.pay_io.specs.Counts.{KeepsCounts, counts_of};
-ghost use Rattle.pay_engine.specs.EngineFault.{engine_of};
+ghost use Rattle.pay_frame.specs.Counts.{KeepsCounts, counts_of};
+ghost use Rattle.pay_frame.specs.EngineFault.{engine_of};
+ghost use Rattle.pay_frame.specs.Exact.{TakesFrames, Writes, exactly};
 ghost use Rattle.pay_link.specs.Keys.{IsPeer};
-ghost use Rattle.pay_engine.specs.Exact.{TakesFrames, Writes, exactly};
 ghost use Rattle.pay_member.specs.Serving.{serve_start, serving};
 
 use crate::member::Member;
 use pay_book::Settle;
 use pay_echo::Instance;
-use pay_engine::{EngineFault, FrameHandler, exact_text, handle_stream};
-use pay_frame::{FrameFault, FrameRef};
+use pay_frame::{
+    EngineFault, FrameFault, FrameHandler, FrameRef, Input, Output, exact_text, handle_stream,
+};
 use pay_hmac::Tagger;
-use pay_io::{Input, Output};
 use pay_link::want;
 use std::alloc::{AllocError, Global};
 
-/// Brings each frame to a member, and writes the WANT of its answer.
+/// A handler that passes each frame to a member, and writes the WANT of its answer.
 #[derive(Drop)]
 struct FromPeer<'a, T> {
     stamp: u16,
@@ -58,11 +58,11 @@ impl<I: Instance + Drop, B: Settle + Drop, T: Tagger> FrameHandler<Member<I, B>>
     }
 }
 
-/// Feeds a member from a peer's stream: writes the WANT for what is next from the peer, then brings
-/// each frame that is read, and writes the WANT of the answer, if any.
+/// Feeds a member from the stream of `peer`. It writes the WANT for what is next from the peer.
+/// Then it passes each frame that is read to the member, and writes the WANT of the answer, if any.
 ///
-/// A fault in the frames ends it, and is answered. After another fault what was written is a prefix
-/// of the text, and the member took a prefix of the frames.
+/// A fault in the frames ends the loop, and is returned. After another fault, a prefix of the text
+/// has been written, and the member has received a prefix of the frames.
 // promise: early ends (counts, none_failed, all_written); peer's stream (text, took)
 pub fn serve<I, B, T, R, W>(
     alloc: Global,
@@ -98,7 +98,7 @@ where
     ensures none_failed { OnOk result (R.failure_count reader.new ≡ R.failure_count reader.old) }
     ensures all_written { OnOk result (W.failure_count writer.new ≡ W.failure_count writer.old) }
 {
-    // a law that the proof stands on: the call does nothing
+    // for the proof, a law: the call does nothing
     exact_text::<Member<I, B>>();
     let first = want(tagger, member.keys(), peer, member.next(peer));
     handle_stream(

@@ -4,12 +4,15 @@ use Rattle.std.proofs.lemmas.Bool.{eq-eqb, ltb-true, ltb-false}
 use Rattle.std.proofs.lemmas.List.{get_or_at, length_push}
 use Rattle.std.proofs.lemmas.List.Elements.{All-get_or, filter-append}
 use Rattle.std.proofs.lemmas.Option.{slice_get-get_or}
-use Rattle.pay_io.specs.declared.stream_fault.StreamFault.{StreamFault}
+use Rattle.pay_frame.specs.declared.device.StreamFault.{StreamFault}
 use Rattle.pay_member.specs.Member.{MemberFields}
 use Rattle.pay_node.specs.Closing.{AllReconciled, seats_with}
 use Rattle.pay_node.specs.Nodes.{AreFresh, NodeFields, fresh_seat}
 use Rattle.pay_node.specs.Seats.{Right, SeatFields}
-use Rattle.pay_net.specs.Running.{DeskStart, DeskStreams, HasServed}
+use Rattle.pay_desk.specs.declared.desk.Desk.{Desk}
+use Rattle.pay_desk.specs.declared.kept.Kept.{Kept}
+use Rattle.pay_net.specs.Desks.{DeskStreams, HasServed, desk_from, first_desk}
+use Rattle.pay_peers.specs.Telling.{TellerFields}
 
 -- ---- the last seat
 
@@ -33,12 +36,14 @@ last_is_fresh count seats others desk fresh is =
     (subst (λ (all : List SeatFields). slice_get all (length others) ≡ Some desk) (sym is) (at_end others desk)) in
     some_same desk (fresh_seat (count - 1)) (sym here ∙ fresh.each (count - 1) (omega arith))
 
-pub served_well : (n : NodeFields) (start : DeskStart) (old fresh new : SeatFields) (streams : DeskStreams) (ended : Result Unit StreamFault) (done : Unit)
-    → old ≡ fresh → ended ≡ Ok done → HasServed n start old new streams ended
-    → HasServed n start fresh new streams (Ok tt)
-served_well n start old fresh new streams ended done same well served =
-    subst (λ (e : Result Unit StreamFault). HasServed n start fresh new streams e) well
-    (subst (λ (seat : SeatFields). HasServed n start seat new streams ended) same served)
+pub served_well : (first : Desk TellerFields) (seat : SeatFields) (streams : DeskStreams) (ended : Result Unit StreamFault) (done : Unit)
+    → ended ≡ Ok done → HasServed first seat streams ended → HasServed first seat streams (Ok tt)
+served_well first seat streams ended done well served = subst (λ (e : Result Unit StreamFault). HasServed first seat streams e) well served
+
+-- the desk that is made with the last of the fresh seats is the first
+pub begins_so : (n : NodeFields) (kept : List Kept) (seats others : List SeatFields) (seat : SeatFields) (first : Desk TellerFields)
+    → AreFresh n.seats seats → seats ≡ others ++ seat ∷ [] → first_desk n kept ≡ first → desk_from n kept seat ≡ first
+begins_so n kept seats others seat first fresh is begins = ap (desk_from n kept) (last_is_fresh n.seats seats others seat fresh is) ∙ begins
 
 -- ---- a seat among those that are settled
 

@@ -2,21 +2,24 @@
 use Rattle.std.proofs.Common.{◌≡◌, inl, inr, ℕ, List, Option, Some, None, Result, Ok, Err, IfOk, ap, length, sym, subst}
 use Rattle.std.specs.Prelude.{IfErr, IsErrOf, MatchResult}
 use Rattle.pay_durable.specs.Kept.{HasAtLeast}
-use Rattle.pay_io.specs.Counts.{KeepsCounts, counts_of, no_other_faults}
-use Rattle.pay_io.specs.declared.stream_fault.StreamFault.{StreamFault}
-use Rattle.pay_io.specs.declared.stream_fault.StreamFault.TheVariants as stream
+use Rattle.pay_frame.specs.Counts.{KeepsCounts, counts_of, no_other_faults}
+use Rattle.pay_frame.specs.declared.device.StreamFault.{StreamFault}
+use Rattle.pay_frame.specs.declared.device.StreamFault.TheVariants as stream
 use Rattle.pay_member.specs.Legal.{Legal}
 use Rattle.pay_member.specs.Member.{MemberFields}
-use Rattle.pay_node.specs.declared.close_fault.CloseFault.{CloseFault}
-use Rattle.pay_node.specs.declared.close_fault.CloseFault.TheVariants as close
+use Rattle.pay_node.specs.declared.closing.CloseFault.{CloseFault}
+use Rattle.pay_node.specs.declared.closing.CloseFault.TheVariants as close
 use Rattle.pay_node.specs.Closing.{AllCounted, AllReconciled, IsCloseFault}
 use Rattle.pay_node.specs.Nodes.{IsOwn, NodeFields, StoppedFields, base_of}
 use Rattle.pay_node.specs.Seats.{SeatFields}
-use Rattle.pay_net.specs.declared.node_fault.NodeFault.{NodeFault}
-use Rattle.pay_net.specs.declared.node_fault.NodeFault.TheVariants.{Engine}
-use Rattle.pay_net.specs.declared.receipts.Receipts.{Receipts}
-use Rattle.pay_net.specs.declared.receipts.Receipts.TheVariants.{Consistent, Unjudged}
-use Rattle.pay_net.specs.Running.{CountsReads, DeskStart, DeskStreams, HasClosed, HasEnded, HasRun, IsClosed, IsDeskFault, IsNodeFault, IsSomehowAmiss, IsUnjudged, as_fault, desk_streams, ended_by}
+use Rattle.pay_net.specs.declared.start.NodeFault.{NodeFault}
+use Rattle.pay_net.specs.declared.start.NodeFault.TheVariants.{Engine}
+use Rattle.pay_net.specs.declared.closing.Receipts.{Receipts}
+use Rattle.pay_net.specs.declared.closing.Receipts.TheVariants.{Consistent, Unjudged}
+use Rattle.pay_desk.specs.declared.desk.Desk.{Desk}
+use Rattle.pay_net.specs.Desks.{DeskStreams, desk_streams}
+use Rattle.pay_net.specs.Running.{CountsReads, HasClosed, HasEnded, HasRun, IsClosed, IsDeskFault, IsNodeFault, IsSomehowAmiss, IsUnjudged, as_fault, ended_by}
+use Rattle.pay_peers.specs.Telling.{TellerFields}
 use Rattle.pay_net.proofs.Desks.{right_at_end}
 
 -- by what closing found
@@ -38,12 +41,12 @@ pub closed_by :
 closed_by s seats r ended is closed = subst (λ (x : Result (MemberFields × Receipts) ℕ). HasClosed s seats x) (sym is) closed
 
 ends_at :
-    (s : StoppedFields) (start : DeskStart) (ports : List ℕ) (seats : List SeatFields) (streams : DeskStreams) (r : Result (MemberFields × Receipts) ℕ)
-    → Legal s.member.genesis s.member.keys s.member.history → IsOwn s.node s.member → HasClosed s seats r → HasRun s.node start seats streams
-    → HasEnded s.node start ports streams (as_fault r)
-ends_at s start ports seats streams (Ok (m, Consistent)) legal own closed ran =
+    (s : StoppedFields) (first : Desk TellerFields) (ports : List ℕ) (seats : List SeatFields) (streams : DeskStreams) (r : Result (MemberFields × Receipts) ℕ)
+    → Legal s.member.genesis s.member.keys s.member.history → IsOwn s.node s.member → HasClosed s seats r → HasRun s.node first seats streams
+    → HasEnded s.node first ports streams (as_fault r)
+ends_at s first ports seats streams (Ok (m, Consistent)) legal own closed ran =
     let settled = subst (λ (x : MemberFields). AllReconciled x (base_of s.node) s.node.seats seats) closed.0 closed.1 in
-    subst (λ (x : MemberFields). IsClosed s.node start x streams) (sym closed.0) (record {
+    subst (λ (x : MemberFields). IsClosed s.node first x streams) (sym closed.0) (record {
       own = own;
       legal = legal;
       seats = seats;
@@ -51,26 +54,26 @@ ends_at s start ports seats streams (Ok (m, Consistent)) legal own closed ran =
       ran = ran;
       right = right_at_end _ _ _ _ _ ran.desk ran.all settled;
     })
-ends_at s start ports seats streams (Ok (m, Unjudged)) legal own closed ran =
-    subst (λ (x : MemberFields). IsUnjudged s.node start x streams) (sym closed.0) (record {
+ends_at s first ports seats streams (Ok (m, Unjudged)) legal own closed ran =
+    subst (λ (x : MemberFields). IsUnjudged s.node first x streams) (sym closed.0) (record {
       own = own;
       legal = legal;
       seats = seats;
       counted = subst (λ (x : MemberFields). AllCounted x (base_of s.node) s.node.seats seats) closed.0 closed.1;
       ran = ran;
     })
-ends_at s start ports seats streams (Err stamp) legal own closed ran =
+ends_at s first ports seats streams (Err stamp) legal own closed ran =
     record { seats = seats; ran = ran; amiss = record { member = s.member; own = own; legal = legal; amiss = closed } }
 
 pub ends_so :
-    (n : NodeFields) (s : StoppedFields) (start : DeskStart) (ports : List ℕ) (seats : List SeatFields) (streams : DeskStreams)
+    (n : NodeFields) (s : StoppedFields) (first : Desk TellerFields) (ports : List ℕ) (seats : List SeatFields) (streams : DeskStreams)
     (r : Result (MemberFields × Receipts) ℕ)
-    → s.node ≡ n → Legal s.member.genesis s.member.keys s.member.history → IsOwn s.node s.member → HasClosed s seats r → HasRun n start seats streams
-    → HasEnded n start ports streams (as_fault r)
-ends_so n s start ports seats streams r same legal own closed ran =
-    subst (λ (x : NodeFields). HasEnded x start ports streams (as_fault r)) same
-    (ends_at s start ports seats streams r legal own closed
-    (subst (λ (x : NodeFields). HasRun x start seats streams) (sym same) ran))
+    → s.node ≡ n → Legal s.member.genesis s.member.keys s.member.history → IsOwn s.node s.member → HasClosed s seats r → HasRun n first seats streams
+    → HasEnded n first ports streams (as_fault r)
+ends_so n s first ports seats streams r same legal own closed ran =
+    subst (λ (x : NodeFields). HasEnded x first ports streams (as_fault r)) same
+    (ends_at s first ports seats streams r legal own closed
+    (subst (λ (x : NodeFields). HasRun x first seats streams) (sym same) ran))
 
 -- the stamp that is told
 pub amiss_so :
@@ -98,31 +101,30 @@ whole_so has s seats r ended is closed had =
 
 -- the same end, of what is the same
 pub ended_so :
-    (r : Result (MemberFields × Receipts) NodeFault) (n node : NodeFields) (k start : DeskStart) (ports : List ℕ) (input left b before a after : Option (List ℕ))
-    → n ≡ node → k ≡ start → b ≡ before → a ≡ after → HasEnded n k ports (desk_streams input left b a) r
-    → HasEnded node start ports (desk_streams input left before after) r
-ended_so r n node k start ports input left b before a after same_node same_kept same_before same_after ended =
-    subst (λ (x : Option (List ℕ)). HasEnded node start ports (desk_streams input left before x) r) same_after
-    (subst (λ (x : Option (List ℕ)). HasEnded node start ports (desk_streams input left x a) r) same_before
-    (subst (λ (x : DeskStart). HasEnded node x ports (desk_streams input left b a) r) same_kept
-    (subst (λ (x : NodeFields). HasEnded x k ports (desk_streams input left b a) r) same_node ended)))
+    (r : Result (MemberFields × Receipts) NodeFault) (n node : NodeFields) (first : Desk TellerFields) (ports : List ℕ) (input left b before a after : Option (List ℕ))
+    → n ≡ node → b ≡ before → a ≡ after → HasEnded n first ports (desk_streams input left b a) r
+    → HasEnded node first ports (desk_streams input left before after) r
+ended_so r n node first ports input left b before a after same_node same_before same_after ended =
+    subst (λ (x : Option (List ℕ)). HasEnded node first ports (desk_streams input left before x) r) same_after
+    (subst (λ (x : Option (List ℕ)). HasEnded node first ports (desk_streams input left x a) r) same_before
+    (subst (λ (x : NodeFields). HasEnded x first ports (desk_streams input left b a) r) same_node ended))
 
 -- ---- a desk that ended with a fault
 
 pub desk_fault :
-    (n : NodeFields) (start : DeskStart) (ports : List ℕ) (streams : DeskStreams) (fault : StreamFault)
-    → IsDeskFault n start fault streams → IsNodeFault n start ports streams (Engine fault)
-desk_fault n start ports streams stream.Memory is = tt
-desk_fault n start ports streams stream.Read is = is
-desk_fault n start ports streams stream.Write is = inl is
-desk_fault n start ports streams stream.Bound is = is
+    (n : NodeFields) (first : Desk TellerFields) (ports : List ℕ) (streams : DeskStreams) (fault : StreamFault)
+    → IsDeskFault first fault streams → IsNodeFault n first ports streams (Engine fault)
+desk_fault n first ports streams stream.Memory is = tt
+desk_fault n first ports streams stream.Read is = is
+desk_fault n first ports streams stream.Write is = inl is
+desk_fault n first ports streams stream.Bound is = is
 
 pub desk_ended :
-    {X : Type 0} (P : X → Type 0) (n : NodeFields) (start : DeskStart) (ports : List ℕ) (streams : DeskStreams) (fault : StreamFault) (r : Result X NodeFault)
-    → r ≡ Err (Engine fault) → IsDeskFault n start fault streams → MatchResult r P (IsNodeFault n start ports streams)
-desk_ended {X} P n start ports streams fault r is ended =
-    subst (λ (x : Result X NodeFault). MatchResult x P (IsNodeFault n start ports streams)) (sym is)
-    (desk_fault n start ports streams fault ended)
+    {X : Type 0} (P : X → Type 0) (n : NodeFields) (first : Desk TellerFields) (ports : List ℕ) (streams : DeskStreams) (fault : StreamFault) (r : Result X NodeFault)
+    → r ≡ Err (Engine fault) → IsDeskFault first fault streams → MatchResult r P (IsNodeFault n first ports streams)
+desk_ended {X} P n first ports streams fault r is ended =
+    subst (λ (x : Result X NodeFault). MatchResult x P (IsNodeFault n first ports streams)) (sym is)
+    (desk_fault n first ports streams fault ended)
 
 -- what is known of a result that is well
 pub well : {X E : Type 0} (P : X → Type 0) (Q : E → Type 0) (r : Result X E) (x : X) → r ≡ Ok x → MatchResult r P Q → P x

@@ -5,5 +5,5 @@ mod Desks
 mod Endings
 mod Seatings
 pub mod Starts
-mod Serving
+mod DeskClients
 mod Workings

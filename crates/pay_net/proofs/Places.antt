@@ -122,31 +122,31 @@ few_below own (suc n) inbound few none =
 
 -- ---- nobody but peers
 
-none_own_for : (own : ℕ) (o : Owner) → IsOfAnother own o → one (owner_is own o) ≡ 0
-none_own_for own Nobody is = refl
-none_own_for own (Peer p) is = let other = is.1 in grind (arith, nat_tests)
-none_own_for own (Current p) is = let other = is.1 in grind (arith, nat_tests)
+none_own_for : (members own : ℕ) (o : Owner) → IsOfAnother members own o → one (owner_is own o) ≡ 0
+none_own_for members own Nobody is = refl
+none_own_for members own (Peer p) is = let other = is.1 in grind (arith, nat_tests)
+none_own_for members own (Current p) is = let other = is.1 in grind (arith, nat_tests)
 
-none_own : (own : ℕ) (inbound : List Inbound) → AreOfPeers own inbound → count_by (is_of own) inbound ≡ 0
-none_own own [] are = refl
-none_own own (g ∷ inbound) are =
-    let here = none_own_for own g.owner (All-head (λ (g : Inbound). IsOfAnother own g.owner) g inbound are) in
-    let others = none_own own inbound (All-tail (λ (g : Inbound). IsOfAnother own g.owner) g inbound are) in
+none_own : (members own : ℕ) (inbound : List Inbound) → AreOfPeers members own inbound → count_by (is_of own) inbound ≡ 0
+none_own members own [] are = refl
+none_own members own (g ∷ inbound) are =
+    let here = none_own_for members own g.owner (All-head (λ (g : Inbound). IsOfAnother members own g.owner) g inbound are) in
+    let others = none_own members own inbound (All-tail (λ (g : Inbound). IsOfAnother members own g.owner) g inbound are) in
     let count-0 = count_cons (is_of own) g inbound in
     omega (arith, here, others, count-0)
 
-below_for : (own : ℕ) (o : Owner) → IsOfAnother own o → one (owner_below 128 o) + one (is_nobody o) ≡ 1
-below_for own Nobody is = refl
-below_for own (Peer p) is = let within = is.0 in grind (arith, nat_tests)
-below_for own (Current p) is = let within = is.0 in grind (arith, nat_tests)
+below_for : (members own : ℕ) (o : Owner) → IsOfAnother members own o → one (owner_below members o) + one (is_nobody o) ≡ 1
+below_for members own Nobody is = refl
+below_for members own (Peer p) is = let within = is.0 in grind (arith, nat_tests)
+below_for members own (Current p) is = let within = is.0 in grind (arith, nat_tests)
 
-all_below : (own : ℕ) (inbound : List Inbound) → AreOfPeers own inbound
-    → count_by (is_below 128) inbound + count_by (λ g. is_nobody g.owner) inbound ≡ length inbound
-all_below own [] are = refl
-all_below own (g ∷ inbound) are =
-    let here = below_for own g.owner (All-head (λ (g : Inbound). IsOfAnother own g.owner) g inbound are) in
-    let others = all_below own inbound (All-tail (λ (g : Inbound). IsOfAnother own g.owner) g inbound are) in
-    let count-0 = count_cons (is_below 128) g inbound in
+all_below : (members own : ℕ) (inbound : List Inbound) → AreOfPeers members own inbound
+    → count_by (is_below members) inbound + count_by (λ g. is_nobody g.owner) inbound ≡ length inbound
+all_below members own [] are = refl
+all_below members own (g ∷ inbound) are =
+    let here = below_for members own g.owner (All-head (λ (g : Inbound). IsOfAnother members own g.owner) g inbound are) in
+    let others = all_below members own inbound (All-tail (λ (g : Inbound). IsOfAnother members own g.owner) g inbound are) in
+    let count-0 = count_cons (is_below members) g inbound in
     let count-1 = count_cons (λ g. is_nobody g.owner) g inbound in
     omega (arith, here, others, count-0, count-1)
 
@@ -197,16 +197,17 @@ one_waits o inbound lacks = one_by o inbound (position (λ g. waits_beside o g.o
 two_of_each : (inbound : List Inbound) → who_makes_place inbound ≡ None → IsCurrentOnce inbound → (peer : ℕ) → count_by (is_of peer) inbound ≤ 2
 two_of_each inbound lacks once peer = omega (arith, both peer inbound, one_waits (Peer peer) inbound lacks, once peer)
 
-stands_by : (own : ℕ) (inbound : List Inbound) (who : Option ℕ) → own < 128 → AreOfPeers own inbound → IsCurrentOnce inbound
-    → length inbound ≡ 256 → who_makes_place inbound ≡ who → IsSome who
-stands_by own inbound (Some i) within are once taken is = search rules
-stands_by own inbound None within are once taken is =
-    let less = few_below own 128 inbound (two_of_each inbound is once) (none_own own inbound are) in
-    let all = all_below own inbound are in
+stands_by : (members own : ℕ) (inbound : List Inbound) (who : Option ℕ) → own < members → AreOfPeers members own inbound → IsCurrentOnce inbound
+    → 2 * members ≤ length inbound → who_makes_place inbound ≡ who → IsSome who
+stands_by members own inbound (Some i) within are once taken is = search rules
+stands_by members own inbound None within are once taken is =
+    let less = few_below own members inbound (two_of_each inbound is once) (none_own members own inbound are) in
+    let all = all_below members own inbound are in
     let strangers = one_waits Nobody inbound is in
-    let two : one (nat_lt own 128) ≡ 1 = grind (arith, nat_tests) in
+    let two : one (nat_lt own members) ≡ 1 = grind (arith, nat_tests) in
     absurd (omega (arith, less, all, strangers, two, taken))
 
-pub one_stands : (own : ℕ) (inbound : List Inbound) → own < 128 → AreOfPeers own inbound → IsCurrentOnce inbound → length inbound ≡ 256
+pub one_stands : (members own : ℕ) (inbound : List Inbound) → own < members → AreOfPeers members own inbound → IsCurrentOnce inbound
+    → 2 * members ≤ length inbound
     → IsSome (who_makes_place inbound)
-one_stands own inbound within are once taken = stands_by own inbound (who_makes_place inbound) within are once taken refl
+one_stands members own inbound within are once taken = stands_by members own inbound (who_makes_place inbound) within are once taken refl

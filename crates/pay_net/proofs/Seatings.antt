@@ -5,16 +5,19 @@ use Rattle.std.proofs.lemmas.Bool.{cases_eq, eq-eqb, ne_eqb}
 use Rattle.std.proofs.lemmas.List.{append-nil, append_assoc, get_or_append_left, get_or_at, length_push, map_push}
 use Rattle.std.proofs.lemmas.List.Elements.{All-cons, All-head, All-map, All-nil, All-push, All-tail}
 use Rattle.std.proofs.lemmas.Option.{get_or_from_slice_get}
-use Rattle.pay_io.specs.declared.stream_fault.StreamFault.{StreamFault}
+use Rattle.pay_frame.specs.declared.device.StreamFault.{StreamFault}
 use Rattle.pay_link.specs.Keys.{KeyFields}
 use Rattle.pay_node.specs.Keeping.{HasFetchedAlone}
 use Rattle.pay_node.specs.Nodes.{AreFresh, NodeFields, fresh_seat}
 use Rattle.pay_node.specs.Seats.{SeatFields}
-use Rattle.pay_peers.specs.declared.peer_reader.PeerReader.{PeerReader}
+use Rattle.pay_peers.specs.declared.feeding.PeerReader.{PeerReader}
 use Rattle.pay_peers.specs.Growing.{EachGrows, SeatGrows, HasGrown}
-use Rattle.pay_net.specs.Running.{AreAllSeats, DeskStart, DeskStreams, HasRun, HasServed, IsDeskFault, IsReader, others_below, peers_of}
+use Rattle.pay_desk.specs.declared.desk.Desk.{Desk}
+use Rattle.pay_net.specs.Desks.{DeskStreams, HasServed}
+use Rattle.pay_net.specs.Running.{HasRun, IsDeskFault, IsReader, others_below, peers_of}
+use Rattle.pay_peers.specs.Telling.{TellerFields}
 use Rattle.pay_net.specs.Seating.{AreSeated, BringsWriters, IsFresh, SeatsOne}
-use Rattle.pay_net.proofs.Desks.{last_is_fresh, served_well}
+use Rattle.pay_net.proofs.Desks.{served_well}
 
 -- ---- all of a list, and of what is at its front
 
@@ -154,40 +157,28 @@ map_twice f h [] = refl
 map_twice f h (x ∷ xs) = ap (λ l. h (f x) ∷ l) (map_twice f h xs)
 
 pub has_run :
-    (n : NodeFields) (start : DeskStart) (first all : List SeatFields) (desk last : SeatFields) (old new : List (ℕ × PeerReader)) (streams : DeskStreams)
+    (n : NodeFields) (first : Desk TellerFields) (all : List SeatFields) (last : SeatFields) (old new : List (ℕ × PeerReader)) (streams : DeskStreams)
     (ended : Result Unit StreamFault) (done : Unit)
-    → AreFresh n.seats first → (others : List SeatFields) × (first ≡ others ++ desk ∷ [])
     → map (λ (r : ℕ × PeerReader). r.0) old ≡ peers_of n.keys → All (λ (r : ℕ × PeerReader). IsFresh r.1.seat) old → EachGrows old new
-    → (writers : List SeatFields) × All HasFetchedAlone writers × (all ≡ (map (λ (r : ℕ × PeerReader). r.1.seat) new ++ writers) ++ last ∷ []) → AreAllSeats n.seats all
-    → ended ≡ Ok done → HasServed n start desk last streams ended → HasRun n start all streams
-has_run n start first all desk last old new streams ended done fresh seated peers readers grown gathered stamped well served = record {
+    → (writers : List SeatFields) × All HasFetchedAlone writers × (all ≡ (map (λ (r : ℕ × PeerReader). r.1.seat) new ++ writers) ++ last ∷ [])
+    → ended ≡ Ok done → HasServed first last streams ended → HasRun n first all streams
+has_run n first all last old new streams ended done peers readers grown gathered well served = record {
   readers = map reader_from new;
   writers = gathered.0;
   desk = last;
   all = gathered.2 ∙ sym (ap (λ l. (l ++ gathered.0) ++ last ∷ []) (map_twice reader_from (λ (r : ℕ × SeatFields). r.1) new));
-  stamped = stamped;
   peers = map_twice reader_from (λ (r : ℕ × SeatFields). r.0) new ∙ grown_peers old new grown ∙ peers;
   read = All-map IsReader reader_from new (grown_readers old new grown readers);
   fetched = gathered.1;
-  served = served_well _ _ _ _ _ _ _ _ (last_is_fresh _ first seated.0 desk fresh seated.1) well served;
+  served = served_well _ _ _ _ _ well served;
 }
 
 -- a desk that ended with a fault
-pub served_from : (n : NodeFields) (start : DeskStart) (first others : List SeatFields) (desk last : SeatFields) (streams : DeskStreams) (ended : Result Unit StreamFault)
-    → AreFresh n.seats first → first ≡ others ++ desk ∷ [] → HasServed n start desk last streams ended
-    → HasServed n start (fresh_seat (n.seats - 1)) last streams ended
-served_from n start first others desk last streams ended fresh is served =
-    subst (λ (seat : SeatFields). HasServed n start seat last streams ended) (last_is_fresh _ first others desk fresh is) served
-
 pub desk_failed :
-    (n : NodeFields) (start : DeskStart) (first others : List SeatFields) (desk last : SeatFields) (streams : DeskStreams) (ended : Result Unit StreamFault) (fault : StreamFault)
-    → AreFresh n.seats first → first ≡ others ++ desk ∷ [] → ended ≡ Err fault → HasServed n start desk last streams ended
-    → IsDeskFault n start fault streams
-desk_failed n start first others desk last streams ended fault fresh is failed served = record {
-  desk = last;
-  served = served_from n start first others desk last streams (Err fault) fresh is
-      (subst (λ (e : Result Unit StreamFault). HasServed n start desk last streams e) failed served);
-}
+    (first : Desk TellerFields) (last : SeatFields) (streams : DeskStreams) (ended : Result Unit StreamFault) (fault : StreamFault)
+    → ended ≡ Err fault → HasServed first last streams ended → IsDeskFault first fault streams
+desk_failed first last streams ended fault failed served =
+    record { desk = last; served = subst (λ (e : Result Unit StreamFault). HasServed first last streams e) failed served }
 
 -- the peers, by their number and the own one
 pub peers_same : (k : KeyFields) (own members : ℕ) (peers : List ℕ) → peers ≡ others_below own members → own ≡ k.own → members ≡ length k.keys → peers ≡ peers_of k
@@ -219,7 +210,3 @@ brings_more done writer old now all seat alone pushed so_far =
       fetched = All-push HasFetchedAlone so_far.more seat so_far.fetched alone;
       is = pushed ∙ ap (λ l. l ++ seat ∷ []) so_far.is ∙ append_assoc old so_far.more (seat ∷ []);
     }
-
--- all seats, by the number that they are
-pub all_of : (count n : ℕ) (seats : List SeatFields) → count ≡ n → AreAllSeats count seats → AreAllSeats n seats
-all_of count n seats same all = subst (λ k. AreAllSeats k seats) same all

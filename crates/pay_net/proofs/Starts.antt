@@ -9,7 +9,7 @@ use Rattle.pay_desk.specs.declared.kept.Kept.{Kept}
 use Rattle.pay_desk.specs.Kept.{kept_under}
 use Rattle.pay_desk.specs.Laws.{AreUnderFreeIds}
 use Rattle.pay_link.specs.Checked.{CheckedFields}
-use Rattle.pay_member.specs.declared.entry.HistoryEntry.{HistoryEntry}
+use Rattle.pay_member.specs.declared.event.HistoryEntry.{HistoryEntry}
 use Rattle.pay_member.specs.declared.event.Event.{Event}
 use Rattle.pay_member.specs.declared.event.Event.TheVariants.{Ask, Taken, Query}
 use Rattle.pay_member.specs.Events.{channel_event, events}

@@ -2,7 +2,7 @@
 use Rattle.std.proofs.Common.{◌≡◌, ℕ, zero, suc, List, [], ◌∷◌, ◌++◌, length, refl, ap, subst, arith}
 use Rattle.std.specs.Prelude.{Vec}
 use Rattle.std.specs.Global.{Global}
-use Rattle.pay_peers.specs.declared.peer_reader.PeerReader.{PeerReader}
+use Rattle.pay_peers.specs.declared.feeding.PeerReader.{PeerReader}
 use Rattle.pay_peers.specs.Growing.{EachGrows}
 use Rattle.pay_net.specs.declared.workers.Worker.{Worker}
 use Rattle.pay_net.specs.declared.workers.Worker.TheVariants.{Notice, Welcome, Accept, Show, Read}

@@ -1,22 +1,11 @@
--- When a peer is met, and when it is lost.
+-- When a peer is connected, and when it is disconnected.
 use Rattle.std.specs.Prelude.{ℕ, ◌&&◌, nat_le, Bool, false, Option, Some, None, ⊤}
-use Rattle.pay_member.specs.declared.lie.Lie.{Lie}
-use Rattle.pay_net.specs.declared.news.News.{News}
-use Rattle.pay_net.specs.declared.news.News.TheVariants.{Met, Lost, GivenUp, Lied, Unopened}
+use Rattle.pay_member.specs.declared.ledger.Lie.{Lie}
+use Rattle.pay_net.specs.declared.contacts.News.{News}
+use Rattle.pay_net.specs.declared.contacts.News.TheVariants.{Met, Lost, GivenUp, Lied, Unopened}
 
--- node: Peers: Until the input ends, standard error says `payd: peer P met` once a frame of P
---   opens, even a WANT, for the first time or for the first time since `lost`. It says
---   `lost` of a peer that was met once two dials in a row brought no frame and the first
---   frame of its last connection is at least a second ago, and `given up` once its last dial
---   brought none. It says once `sends frames that don't open: another key or another group`:
---   a frame in its name has a wrong tag, which anyone who reaches the port can send. It says
---   `lied: a second ECHO about value S of account A; nothing more is read from it` once P
---   sent what no correct member sends, which may be a second SEND or READY too, or `a SEND
---   about account A, which isn't its own`. A node waits until these lines are taken.
--- change: what is told of peers: of frames that don't open `pay_peers`: `specs/Answering.antt`;
---   words in `payd/src/saying.rt`; `tests/test_dial.py`
--- What is told where a peer is heard of which this was told last: that it is met, unless it is, was
--- given up, or lied.
+-- What is reported when a peer is heard after this event: that it is connected, unless it is, was
+-- abandoned, or sent a protocol violation.
 abbrev pub news_when_heard : Option News → Option News
 news_when_heard None = Some Met
 news_when_heard (Some Met) = None
@@ -25,7 +14,7 @@ news_when_heard (Some GivenUp) = None
 news_when_heard (Some (Lied lie)) = None
 news_when_heard (Some Unopened) = Some Met
 
--- What is told where a peer lied: that, unless it was told before.
+-- What is reported when a peer sent a protocol violation: that, unless it was reported before.
 abbrev pub news_of_lie : Option News → Lie → Option News
 news_of_lie None lie = Some (Lied lie)
 news_of_lie (Some Met) lie = Some (Lied lie)
@@ -34,8 +23,8 @@ news_of_lie (Some GivenUp) lie = Some (Lied lie)
 news_of_lie (Some (Lied former)) lie = None
 news_of_lie (Some Unopened) lie = Some (Lied lie)
 
--- A peer that is met is lost where two dials in a row brought nothing, and nothing of it came for a
--- second.
+-- A connected peer is disconnected if two connections in a row failed, and nothing came from it for
+-- a second.
 abbrev pub is_lost : Option News → ℕ → ℕ → Bool
 is_lost None missed silence = false
 is_lost (Some Met) missed silence = nat_le 2 missed && nat_le 1000 silence
@@ -44,9 +33,10 @@ is_lost (Some GivenUp) missed silence = false
 is_lost (Some (Lied lie)) missed silence = false
 is_lost (Some Unopened) missed silence = false
 
--- What may be told of a peer behind what was told last: none is lost that wasn't met, none is met
--- or lost twice in a row. Of one that was given up nothing else is told but a lie, and of one that
--- lied nothing. That a frame of its doesn't open may be told at any time.
+-- What may be reported about a peer after the last event. A peer is reported disconnected only
+-- after it was connected, and neither event comes twice in a row. After an abandoned peer only a
+-- protocol violation follows, and after that nothing. A failed authentication may be reported at
+-- any time.
 abbrev pub MayFollow : Option News → News → Type 0
 MayFollow None Lost = ⊥
 MayFollow None _ = ⊤

@@ -1,7 +1,7 @@
--- The number and the name under which each fault of a file of ports is printed.
+-- The number and the name that each fault of a file of ports is printed with.
 use Rattle.std.specs.Prelude.{ℕ, List, ◌++◌, codes, decimal}
-use Rattle.pay_net.specs.declared.ports_fault.PortsFault.{PortsFault}
-use Rattle.pay_net.specs.declared.ports_fault.PortsFault.TheVariants.{Memory, BadJson, BadShape}
+use Rattle.pay_net.specs.declared.ports.PortsFault.{PortsFault}
+use Rattle.pay_net.specs.declared.ports.PortsFault.TheVariants.{Memory, BadJson, BadShape}
 
 abbrev pub ports_fault_number : PortsFault → ℕ
 ports_fault_number Memory = 0

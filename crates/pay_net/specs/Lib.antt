@@ -1,9 +1,12 @@
 pub mod Contacts
+pub mod Desks
+pub mod DeskLaws
 pub mod Faults
 pub mod Figures
 pub mod Inbound
 pub mod InboundLaws
 pub mod Limits
+pub mod Places
 pub mod Ports
 pub mod Refusals
 pub mod Running

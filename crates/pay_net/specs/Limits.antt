@@ -1,6 +1,6 @@
--- How much a node has at once, and how long it waits.
+-- The limits of a node, and how long it waits.
 use Rattle.std.specs.Prelude.{◌≡◌}
-use Rattle.pay_io.specs.declared.limits.TheConstants.{MOST_READS}
+use Rattle.pay_frame.specs.declared.limits.TheConstants.{MOST_READS}
 use Rattle.pay_net.specs.declared.accepting.TheConstants.{MOST_CONNECTIONS}
 use Rattle.pay_net.specs.declared.clients.TheConstants.{IDLE_SECONDS, MOST_CLIENTS}
 use Rattle.pay_net.specs.declared.dialing.TheConstants.{DIAL_MILLIS, WRITE_MILLIS}
@@ -9,10 +9,10 @@ use Rattle.pay_node.specs.declared.node.TheConstants.{MOST_SEATS}
 use Rattle.pay_node.specs.declared.seat.TheConstants.{LATEST}
 use Rattle.pay_peers.specs.declared.backoff.TheConstants.{QUIET_SECONDS}
 
--- connections that others dialed, and clients of its desk; how long a client may be silent, an
--- attempt to connect may take, a write of WANTs may wait, and a dialed connection bring nothing;
--- for how long memory is refused to a node that starves, and how far apart; how many seats there
--- are, how often its desk's input is read, and among how many receipts a seat looks for a reading
+-- The counts of inbound connections, and of clients of its desk. How long a client may be silent,
+-- an attempt to connect may take, a write of WANTs may wait, and an outbound connection may deliver
+-- nothing. How long a node is out of memory, and the time between failed allocations. The counts of
+-- seats, of reads of its desk's input, and of receipts among which a seat looks for a reading.
 pub record AreLimits : Type 0 where
   pub connections : MOST_CONNECTIONS ≡ 256
   pub clients : MOST_CLIENTS ≡ 16

@@ -1,19 +1,9 @@
--- When a node starves: memory was refused to it again and again for five seconds.
+-- When a node counts as out of memory: allocations failed again and again for five seconds.
 use Rattle.std.specs.Prelude.{ℕ, ◌-◌, nat_le, Bool, Option, Some, None, if◌then◌else◌}
 use Rattle.pay_net.specs.declared.refusals.Spell.{Spell}
 
--- node: Memory: A node keeps all that a peer broadcasts and votes, a receipt for each frame that
---   it asks for, and one of each answer of its desk, but one alone of a reading that is
---   polled, up to 256 in turn, while nothing new came. [How many
---   bytes](BENCHMARKS.md#a-node) depends on the values. If memory is refused again and again
---   for five seconds to those who read from peers, the node says `payd: memory was refused
---   for 5 seconds on end`. With `--data` it then ends, as soon as one that has forgotten,
---   with `payd: engine 0 Memory`, status 3, and without an export. Nothing is lost: start it
---   again where there is more memory.
--- change: when a node starves: who notices it `src/noticing.rt`; how it ends
---   `payd/src/staying.rt`; `tests/test_memory.py`
--- The refusals that follow each other, behind one more at this time: those before it count where
--- the last was two seconds ago at most.
+-- The failed allocations of a row, after one more at this time. The earlier ones count if the last
+-- was at most two seconds ago.
 abbrev pub spell_behind : Option Spell → ℕ → Spell
 spell_behind None now = record { first = now; last = now }
 spell_behind (Some spell) now =

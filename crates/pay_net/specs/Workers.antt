@@ -1,7 +1,7 @@
 -- What the workers of a node leave of the seats that they were lent.
 use Rattle.std.specs.Prelude.{◌≡◌, ℕ, ◌<◌, ◌++◌, ◌∷◌, List, [], Vec, length, slice_index_or, ⊤}
 use Rattle.std.specs.Global.{Global}
-use Rattle.pay_peers.specs.declared.peer_reader.PeerReader.{PeerReader}
+use Rattle.pay_peers.specs.declared.feeding.PeerReader.{PeerReader}
 use Rattle.pay_peers.specs.Growing.{EachGrows}
 use Rattle.pay_net.specs.declared.workers.Worker.{Worker}
 use Rattle.pay_net.specs.declared.workers.Worker.TheVariants.{Notice, Welcome, Accept, Show, Read}
@@ -19,7 +19,7 @@ pub record AllWorked (old new : List Worker) : Type 0 where
       (k : ℕ) (d : Worker) → k < length old
       → HasWorked (slice_index_or old k d) (slice_index_or new k d)
 
--- the last has the readers
+-- the last worker has the readers
 pub record EndsInReader (workers : List Worker) : Type 0 where
   pub others : List Worker
   pub readers : Vec (ℕ × PeerReader) Global

@@ -1,23 +1,35 @@
-ghost use Rattle.std.specs.Prelude.{◌≡◌, ℕ, IfOk, IsErrOf, List, MatchResult, length};
-ghost use Rattle.pay_durable.specs.Kept.{HasAtLeast};
-ghost use Rattle.pay_io.specs.declared.stream_fault.StreamFault.TheVariants.{Bound, Memory, Read};
-ghost use Rattle.pay_net.specs.declared.node_fault.NodeFault.TheVariants.{Close, Engine};
-ghost use Rattle.pay_node.specs.declared.close_fault.CloseFault.TheVariants.{Mismatch};
-ghost use Rattle.pay_node.specs.Nodes.{IsOwn};
-ghost use Rattle.pay_net.specs.Running.{DeskStart, DeskStreams, HasClosed, HasEnded, HasRun};
-ghost use Rattle.pay_net.specs.Running.{IsNodeFault};
-ghost use Rattle.pay_net.specs.Running.{IsSomehowAmiss, ended_by};
+//! The end of a node: what the shutdown check found about its seats' receipts.
 
-use crate::node_fault::NodeFault;
-use crate::receipts::Receipts;
+ghost use Rattle.std.specs.Prelude.{◌≡◌, ℕ, IfOk, IsErrOf, List, MatchResult, length};
+ghost use Rattle.pay_desk.specs.declared.desk.Desk.{Desk};
+ghost use Rattle.pay_durable.specs.Kept.{HasAtLeast};
+ghost use Rattle.pay_frame.specs.declared.device.StreamFault.TheVariants.{Bound, Memory, Read};
+ghost use Rattle.pay_net.specs.Desks.{DeskStreams};
+ghost use Rattle.pay_net.specs.Running.{HasClosed, HasEnded, HasRun, IsNodeFault, IsSomehowAmiss};
+ghost use Rattle.pay_net.specs.Running.{ended_by};
+ghost use Rattle.pay_net.specs.declared.start.NodeFault.TheVariants.{Close, Engine};
+ghost use Rattle.pay_node.specs.Nodes.{IsOwn};
+ghost use Rattle.pay_node.specs.declared.closing.CloseFault.TheVariants.{Mismatch};
+ghost use Rattle.pay_peers.specs.Telling.{TellerFields};
+
+use crate::start::NodeFault;
 use pay_durable::Keeper;
-use pay_io::StreamFault;
+use pay_frame::StreamFault;
 use pay_node::{Beginning, CloseFault, Node, OwnMember, Seat, Stopped};
 use std::alloc::Global;
 use std::sync::Wait;
 
-/// What is left of a node whose threads ended so: its history is kept once more, and then held
-/// against its seats.
+/// What was found about the receipts of a node that ended.
+#[derive(Clone, Copy, Debug, PartialEq, Eq)]
+pub enum Receipts {
+    /// The member's history is consistent with them.
+    Consistent,
+    /// Nothing was found: memory ran out first.
+    Unjudged,
+}
+
+/// Returns what is left of a node with this result of its threads: its history is synced once more,
+/// and then compared with its seats.
 // promise: node's end (amiss, memory, durable, whole)
 pub(crate) fn finish<R, S, K>(
     rt: &R,
@@ -30,9 +42,9 @@ where
     R: Wait,
     S: Beginning,
     K: Keeper,
-    ensures ended { (start : DeskStart) (ports : List ℕ) (streams : DeskStreams)
-        → MatchResult ran (λ seats. HasRun node start seats.items streams)
-        (IsNodeFault node start ports streams) → HasEnded node start ports streams result }
+    ensures ended { (first : Desk TellerFields) (ports : List ℕ) (streams : DeskStreams)
+        → MatchResult ran (λ seats. HasRun node first seats.items streams)
+        (IsNodeFault node first ports streams) → HasEnded node first ports streams result }
     ensures durable { IfOk result (λ _. K.kept keeper.now node) }
     ensures whole { IfOk result (λ ended.
         HasAtLeast (K.has keeper.now) (length ended.0.history)) }
@@ -56,7 +68,8 @@ where
     }
 }
 
-// The member of a node that no thread calls any more, or the stamp for which it isn't closed.
+// Returns the member of a node that no thread calls any more, or the stamp that the shutdown check
+// names.
 // promise: node's end
 fn close_stopped<S: Beginning>(
     alloc: Global,
@@ -69,8 +82,8 @@ fn close_stopped<S: Beginning>(
     answer_of_close(stopped.close(alloc, seats))
 }
 
-// The same, by what closing found. A member that isn't known to be wrong is handed back, judged or
-// not.
+// Returns the result for what the shutdown check `found`. A member that isn't known to be wrong is
+// returned, judged or not.
 // promise: node's end
 fn answer_of_close<S: Beginning>(
     found: Result<OwnMember, (CloseFault, Stopped<S>)>,

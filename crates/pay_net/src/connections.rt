@@ -3,21 +3,22 @@ use std::net::{Shutdown, TcpStream};
 use std::sync::atomic::{AtomicBool, AtomicU64, Ordering};
 use std::sync::{Mutex, Wait};
 
-/// Clones of the connections that stand, so that they can be shut while others read from them or
+/// Clones of the open connections, so that they can be shut down while others read from them or
 /// write to them.
 ///
-/// There is a place for each connection that may stand at once. A clone holds its connection open,
-/// so whoever is done with one gives its place back.
+/// There is a place for each connection that may be open at once. A clone holds its connection
+/// open, so a thread that is done with a connection releases its place.
 #[derive(Drop)]
 pub(crate) struct Connections {
     places: Mutex<Vec<Option<TcpStream>>>,
-    // how often any was heard, and how often by the last time that each was
+    // a clock that counts each time that a connection was heard, and its value when each was heard
+    // last
     heard: AtomicU64,
     heard_last: Vec<AtomicU64>,
 }
 
 impl Connections {
-    /// Room for so many connections.
+    /// Creates room for `most` connections.
     pub(crate) fn new(alloc: Global, most: u16) -> Result<Connections, AllocError> {
         let mut places = Vec::new(alloc);
         let mut heard_last = Vec::new(alloc);
@@ -32,11 +33,11 @@ impl Connections {
         })
     }
 
-    /// Keeps a clone of a connection. Answers its place, or none where all are taken, where all
-    /// connections are or will be shut, or where it can't be cloned.
+    /// Keeps a clone of a connection and returns its place. Returns `None` if all places are taken,
+    /// if all connections are or will be shut down, or if it can't be cloned.
     ///
-    /// The flag is set before all are shut: so what is kept after it was looked at here is shut
-    /// with them.
+    /// `stop` is set before all are shut down, so what is kept after it was tested here is shut
+    /// down with them.
     pub(crate) fn keep<R: Wait>(
         &self,
         rt: &R,
@@ -56,7 +57,7 @@ impl Connections {
         Some(free)
     }
 
-    /// Notes that something came on the connection at a place.
+    /// Notes that something came on the connection at `place`.
     pub(crate) fn hear(&self, place: usize) {
         if let Some(last) = self.heard_last.get(place) {
             let before = self.heard.fetch_add(1, Ordering::SeqCst);
@@ -64,13 +65,13 @@ impl Connections {
         }
     }
 
-    /// How often any was heard.
+    /// Returns how often connections were heard.
     pub(crate) fn times_heard(&self) -> u64 {
         self.heard.load(Ordering::SeqCst)
     }
 
-    /// Shuts the connection that wasn't heard for longest, if it wasn't since so many times. It
-    /// keeps its place until whoever answers it gives that back.
+    /// Shuts down the connection that wasn't heard for longest, if it wasn't heard after the time
+    /// `since`. It keeps its place until its thread releases it.
     pub(crate) fn shut_idlest<R: Wait>(&self, rt: &R, since: u64) {
         let places = self.places.lock(rt);
         let mut least = since;
@@ -90,20 +91,20 @@ impl Connections {
         }
     }
 
-    /// Shuts the connection at a place, and gives the place back.
+    /// Shuts down the connection at `place`, and releases the place.
     pub(crate) fn shut<R: Wait>(&self, rt: &R, place: usize) {
         let mut places = self.places.lock(rt);
         shut(places.as_mut_slice(), place);
     }
 
-    /// Shuts all that stand. They keep their places.
+    /// Shuts down all open connections. They keep their places.
     pub(crate) fn shut_all<R: Wait>(&self, rt: &R) {
         let places = self.places.lock(rt);
         shut_all(places.as_slice());
     }
 }
 
-/// Shuts the connection at a place, if one is kept there, and keeps it no more.
+/// Shuts down the connection at `place`, if one is kept there, and keeps it no more.
 pub(crate) fn shut(kept: &mut [Option<TcpStream>], place: usize) {
     if let Some(kept) = kept.get_mut(place) {
         if let Some(stream) = kept.take() {
@@ -112,7 +113,7 @@ pub(crate) fn shut(kept: &mut [Option<TcpStream>], place: usize) {
     }
 }
 
-/// Shuts all connections that are kept, and keeps them.
+/// Shuts down all connections that are kept, and keeps them.
 pub(crate) fn shut_all(kept: &[Option<TcpStream>]) {
     for stream in kept.iter().flatten() {
         let _ = stream.shutdown(Shutdown::Both);

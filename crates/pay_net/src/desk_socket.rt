@@ -1,4 +1,4 @@
-//! The socket on which clients of a node's desk call.
+//! The socket for the clients of a node's desk.
 
 ghost use Rattle.std.specs.Prelude.{◌≡◌, ◌++◌, IfOk, codes, string_bytes};
 
@@ -13,16 +13,16 @@ use std::os::unix::net::{UnixListener, UnixStream};
 use std::rt::Files;
 use std::{fs, io};
 
-/// The greatest number of bytes of a socket's name. The system takes 107, and the name in the
-/// folder in which it is made is longer than its own.
+/// The greatest size of a socket's name in bytes. The system accepts 107, and the name in the
+/// folder that the socket is made in is longer than its own.
 pub const MOST_SOCKET_NAME: usize = 101;
 
-/// For the owner alone.
+/// The mode of a socket that only its owner may use.
 const SOCKET_MODE: u32 = 0o600;
 
 const FOLDER_MODE: u32 = 0o700;
 
-/// What the name of that folder has more than the socket's, and what the socket is called there.
+/// The ending that the name of that folder has after the socket's, and the socket's name there.
 const NEW: &str = ".new";
 
 const IN_NEW: &str = "s";
@@ -31,14 +31,14 @@ const IN_NEW: &str = "s";
 #[derive(Drop)]
 pub struct DeskSocket {
     listener: UnixListener,
-    // The same socket under the type that can be shut: who waits for a client then gets an error,
-    // at once.
+    // This socket under a type that can be shut down: a thread that waits for a client then gets an
+    // error at once.
     same: TcpStream,
 }
 
 impl DeskSocket {
-    /// Listens on the socket of this name, which only the owner may open. A socket there on which
-    /// nobody listens any more, as after a kill, makes way; anything else there is an error.
+    /// Listens on the socket `path`, which only the owner may open. A socket there that nobody
+    /// listens on any more, as after a kill, is removed. Anything else there is an error.
     pub fn bind<R: Files + Net>(rt: &R, alloc: Global, path: &str) -> io::Result<DeskSocket> {
         make_way(rt, path)?;
         let Ok((folder, made)) = new_names(alloc, path) else {
@@ -62,7 +62,7 @@ impl Door for DeskSocket {
     }
 }
 
-// The folder in which a socket is made, and its name there.
+// Returns the folder that a socket is made in, and its name there.
 fn new_names(alloc: Global, path: &str) -> Result<(String, String), AllocError>
     ensures folder { IfOk result (λ names. string_bytes names.0 ≡ path.now ++ codes ".new") }
     ensures socket { IfOk result (λ names.
@@ -73,8 +73,8 @@ fn new_names(alloc: Global, path: &str) -> Result<(String, String), AllocError>
     Ok((folder, made))
 }
 
-// Listens on a socket that has its name only once nobody else may open it. Until then it stands in
-// a new folder that nobody else may enter, of which a kill may have left one.
+// Listens on a socket that gets its name only after nobody else may open it. Until then it is in a
+// new folder that nobody else may enter. A kill may have left such a folder.
 fn bind_within<R: Files + Net>(
     rt: &R,
     folder: &str,
@@ -100,7 +100,7 @@ fn remove_new<R: Files>(rt: &R, folder: &str, made: &str) {
     let _ = fs::remove_dir(rt, folder);
 }
 
-// Removes a socket on which nobody listens.
+// Removes a socket that nobody listens on.
 fn make_way<R: Files + Net>(rt: &R, path: &str) -> io::Result<()> {
     let found = match fs::symlink_metadata(rt, path) {
         Ok(found) => found,

@@ -1,7 +1,7 @@
 use crate::connections::Connections;
 use crate::ports::Ports;
-use pay_io::{Reader, Writer};
-use pay_peers::{Dial, Dialed, QUIET_SECONDS};
+use pay_frame::{Reader, Writer};
+use pay_peers::{CLAIM_SECONDS, Dial, Dialed, QUIET_SECONDS};
 use std::io;
 use std::io::Read;
 use std::net::{IpAddr, Ipv4Addr, Net, SocketAddr, TcpListener, TcpStream};
@@ -9,14 +9,15 @@ use std::sync::Wait;
 use std::sync::atomic::{AtomicBool, Ordering};
 use std::time::Duration;
 
-/// How long one attempt to connect may take, so that a node can stop.
+/// The most milliseconds that an attempt to connect may take, so that a node can stop.
 const DIAL_MILLIS: u64 = 1_000;
 
-/// How long a write of WANTs may wait. One waits only where the sockets between the two hold less
-/// than a window's WANTs: the peer may then wait to write, until this connection ends.
+/// The most milliseconds that a write of WANTs may wait. A write waits only if the sockets between
+/// the two nodes hold less than a window's WANTs. The peer may then wait to write, until this
+/// connection ends.
 const WRITE_MILLIS: u64 = 1_000;
 
-/// Connects to peers on this machine, until the node stops.
+/// A connector to peers on this machine, which works until the node stops.
 #[derive(Drop)]
 pub(crate) struct Dialer<'a, R> {
     pub rt: &'a R,
@@ -25,12 +26,14 @@ pub(crate) struct Dialer<'a, R> {
     pub stop: &'a AtomicBool,
 }
 
-/// A connection that was dialed, and its place among those that stand. Shut where it is dropped.
+/// An outbound connection, and its place among the open ones. It is shut down when it is dropped.
 pub(crate) struct DialedStream<'a, R: Wait> {
     rt: &'a R,
     dialed: &'a Connections,
     place: usize,
     stream: TcpStream,
+    // whether a claim is waited for
+    asks: bool,
 }
 
 impl<R: Wait> Drop for DialedStream<'_, R> {
@@ -40,6 +43,7 @@ impl<R: Wait> Drop for DialedStream<'_, R> {
             dialed,
             place,
             stream,
+            asks: _,
         } = self;
         dialed.shut(rt, place);
         drop(stream);
@@ -48,7 +52,12 @@ impl<R: Wait> Drop for DialedStream<'_, R> {
 
 impl<R: Wait> Read for DialedStream<'_, R> {
     fn read(&mut self, buffer: &mut [u8]) -> io::Result<usize> {
-        self.stream.read(buffer)
+        let count = self.stream.read(buffer)?;
+        if self.asks {
+            self.asks = false;
+            let _ = wait_for(&self.stream, QUIET_SECONDS);
+        }
+        Ok(count)
     }
 }
 
@@ -56,11 +65,15 @@ impl<'a, R> Dial<Reader<DialedStream<'a, R>>, Writer<TcpStream>> for Dialer<'a, 
 where
     R: Net<Listener = TcpListener, Stream = TcpStream> + Wait,
 {
-    fn dial(&self, peer: u16) -> Dialed<Reader<DialedStream<'a, R>>, Writer<TcpStream>> {
+    fn dial(
+        &self,
+        peer: u16,
+        asks: bool,
+    ) -> Dialed<Reader<DialedStream<'a, R>>, Writer<TcpStream>> {
         if self.stop.load(Ordering::SeqCst) {
             return Dialed::Stop;
         }
-        match self.connect(peer) {
+        match self.connect(peer, asks) {
             Some((reader, writer)) => Dialed::Streams(Reader::new(reader), Writer::new(writer)),
             None => Dialed::Failed,
         }
@@ -68,8 +81,8 @@ where
 }
 
 impl<'a, R: Net<Listener = TcpListener, Stream = TcpStream> + Wait> Dialer<'a, R> {
-    // Both ends of a connection to a peer that is kept among those that stand.
-    fn connect(&self, peer: u16) -> Option<(DialedStream<'a, R>, TcpStream)> {
+    // Connects to `peer`. Returns both directions of a connection that is kept among the open ones.
+    fn connect(&self, peer: u16, asks: bool) -> Option<(DialedStream<'a, R>, TcpStream)> {
         let port = self.ports.of(peer)?;
         let address = SocketAddr::new(IpAddr::V4(Ipv4Addr::LOCALHOST), port);
         let wait = Duration::from_millis(DIAL_MILLIS);
@@ -78,7 +91,7 @@ impl<'a, R: Net<Listener = TcpListener, Stream = TcpStream> + Wait> Dialer<'a, R
             return None;
         }
         let _ = stream.set_nodelay(true);
-        let _ = stream.set_read_timeout(Some(Duration::from_secs(QUIET_SECONDS)));
+        let _ = wait_for(&stream, if asks { CLAIM_SECONDS } else { QUIET_SECONDS });
         let _ = stream.set_write_timeout(Some(Duration::from_millis(WRITE_MILLIS)));
         let writer = stream.try_clone().ok()?;
         let place = self.dialed.keep(self.rt, self.stop, &stream)?;
@@ -87,12 +100,19 @@ impl<'a, R: Net<Listener = TcpListener, Stream = TcpStream> + Wait> Dialer<'a, R
             dialed: self.dialed,
             place,
             stream,
+            asks,
         };
         Some((reader, writer))
     }
 }
 
-// Where nobody listens, the system may give a connection the very port that it goes to.
+// Limits the wait of each read of `stream` to `seconds` seconds.
+fn wait_for(stream: &TcpStream, seconds: u64) -> io::Result<()> {
+    stream.set_read_timeout(Some(Duration::from_secs(seconds)))
+}
+
+// Returns whether a stream is connected to itself. If nobody listens, the system may give a
+// connection the very port that it goes to.
 fn is_own_end(stream: &TcpStream, port: u16) -> bool {
     match stream.local_addr() {
         Ok(address) => address.port() == port,

@@ -1,13 +1,75 @@
+//! The file of ports: the port that each member listens on.
+
 ghost use Rattle.std.specs.Prelude.{◌≡◌, ◌<◌, IfErr, IfNone, IfOk, IfSome, length, slice_get};
 ghost use Rattle.std.specs.List.{All};
+ghost use Rattle.pay_net.specs.Faults.{ports_fault_name, ports_fault_number};
 ghost use Rattle.pay_net.specs.Ports.{HasPorts, IsPort, IsPortsFault};
 
-use crate::ports_fault::PortsFault;
 use pay_link::{Genesis, numbers_at, value_in};
 use std::alloc::{AllocError, Global};
+use std::fmt;
 use std::marker::Model;
+use thiserror::Error;
 
-/// The port on which each member of a group listens.
+/// The reason why there are no ports, in the order of the tests. `Memory` is outside of this order.
+#[derive(Clone, Copy, Debug, PartialEq, Eq, Error)]
+pub enum PortsFault {
+    /// There is no memory. The file may be right.
+    Memory,
+    /// The file isn't JSON.
+    BadJson,
+    /// The object has no list of N ports, or a number there is no port.
+    BadShape,
+}
+
+impl PortsFault {
+    // promise: order of refusals (number, name)
+    const fn entry(self) -> (u8, &'static str)
+        ensures number { result.0 ≡ ports_fault_number self }
+        ensures name { result.1.now ≡ ports_fault_name self }
+    {
+        match self {
+            PortsFault::Memory => (0, "Memory"),
+            PortsFault::BadJson => (1, "BadJson"),
+            PortsFault::BadShape => (2, "BadShape"),
+        }
+    }
+
+    pub fn number(self) -> u8
+        ensures value { result ≡ ports_fault_number self }
+    {
+        self.entry().0
+    }
+
+    pub fn name(self) -> &'static str
+        ensures value { result.now ≡ ports_fault_name self }
+    {
+        self.entry().1
+    }
+}
+
+impl fmt::Display for PortsFault {
+    ghost use Rattle.std.specs.Prelude.{Some};
+    ghost use Rattle.pay_net.specs.Faults.{ports_fault_words};
+
+    ghost output = { λ fault. Some (ports_fault_words fault) };
+
+    fn fmt<W: fmt::Write>(&self, f: &mut fmt::Formatter<W>) -> fmt::Result {
+        write!(f, "{} {}", self.number(), self.name())
+    }
+}
+
+impl From<AllocError> for PortsFault {
+    ghost use Rattle.pay_net.specs.declared.ports.PortsFault.TheVariants.{Memory};
+
+    ghost from_gives = { λ _ e. e ≡ Memory };
+
+    fn from(_error: AllocError) -> PortsFault {
+        PortsFault::Memory
+    }
+}
+
+/// The port that each member of a group listens on.
 #[derive(Drop)]
 pub struct Ports {
     ports: Vec<u16>,
@@ -22,7 +84,7 @@ impl Model for Ports {
 }
 
 impl Ports {
-    /// The ports that a file of JSON says for the members of this genesis.
+    /// Returns the ports that `bytes`, a file of JSON, contain for the members of `genesis`.
     // promise: files
     pub fn read(alloc: Global, genesis: &Genesis, bytes: &[u8]) -> Result<Ports, PortsFault>
         ensures value { IfOk result (HasPorts genesis.now.members bytes.now) }
@@ -47,7 +109,7 @@ impl Ports {
         }
     }
 
-    /// The port of a member.
+    /// Returns the port of `member`.
     pub fn port(&self, member: u16) -> u16
         requires { member < length self.now }
         ensures { slice_get self.now member ≡ Some result }
@@ -55,7 +117,7 @@ impl Ports {
         self.ports[usize::from(member)]
     }
 
-    /// The same, where there is such a member.
+    /// Returns the port of `member`, if there is such a member.
     pub fn of(&self, member: u16) -> Option<u16>
         ensures { result ≡ slice_get self.now member }
     {
@@ -63,7 +125,7 @@ impl Ports {
     }
 }
 
-// These numbers as ports, if each is one.
+// Returns `numbers` as ports, if each is one.
 fn ports_of(alloc: Global, numbers: &[u64]) -> Result<Option<Vec<u16>>, AllocError>
     ensures ports { IfOk result (λ found. IfSome found (λ ports.
         (ports.items ≡ numbers.now) × All IsPort numbers.now)) }
@@ -79,7 +141,7 @@ fn ports_of(alloc: Global, numbers: &[u64]) -> Result<Option<Vec<u16>>, AllocErr
     Ok(Some(ports))
 }
 
-// The number as a port, if it is one.
+// Returns `number` as a port, if it is one.
 fn port_of(number: u64) -> Option<u16>
     ensures port { IfSome result (λ port. (port ≡ number) × IsPort number) }
     ensures none { IfNone result (¬ (IsPort number)) }

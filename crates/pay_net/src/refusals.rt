@@ -2,34 +2,34 @@ ghost use Rattle.std.specs.Prelude.{◌≡◌, None, Some, false};
 ghost use Rattle.std.specs.Option.{option_map_or};
 ghost use Rattle.pay_net.specs.Refusals.{is_starved, spell_behind};
 
-/// For how long memory is refused to a node that starves, in milliseconds.
+/// The milliseconds after which a node without memory counts as out of memory.
 pub(crate) const STARVED_MILLIS: u64 = 5_000;
 
-/// How long no refusal comes where memory is to be had again.
+/// The milliseconds without a failed allocation after which memory is available again.
 pub(crate) const RELIEVED_MILLIS: u64 = 2_000;
 
-/// Since when memory is refused, by refusals that follow each other, and when it was last.
+/// The times of the first and the last of a row of failed allocations.
 #[derive(Clone, Copy, Debug, PartialEq, Eq)]
 pub(crate) struct Spell {
     pub first: u64,
     pub last: u64,
 }
 
-/// When memory was refused to a node's workers, in milliseconds since its start.
+/// The times at which a node's workers ran out of memory, in milliseconds since its start.
 #[derive(Drop)]
 pub(crate) struct Refusals {
     spell: Option<Spell>,
 }
 
 impl Refusals {
-    /// It never was.
+    /// Creates a record without a failed allocation.
     pub(crate) fn new() -> Refusals
         ensures { result ≡ record { spell = None } }
     {
         Refusals { spell: None }
     }
 
-    /// It was refused now.
+    /// Notes that memory ran out at the time `now`.
     // promise: limits
     pub(crate) fn note(&mut self, now: u64)
         ensures { self.new ≡ record { spell = Some (spell_behind self.old.spell now) } }
@@ -41,7 +41,7 @@ impl Refusals {
         self.spell = Some(Spell { first, last: now });
     }
 
-    /// Whether the node starves.
+    /// Returns whether the node counts as out of memory.
     // promise: limits
     pub(crate) fn are_lasting(&self) -> bool
         ensures { result ≡ option_map_or is_starved self.now.spell false }

@@ -1,9 +1,9 @@
 ghost use Rattle.std.specs.Prelude.{◌≡◌, ◌≢◌, ◌+◌, ◌*◌, ◌<◌, ◌++◌, ◌∷◌, List, [], IfOk, OnOk};
-ghost use Rattle.std.specs.Prelude.{◌↔◌, IsTrue, length, map};
-ghost use Rattle.std.specs.List.{All, Any};
+ghost use Rattle.std.specs.Prelude.{length, map};
+ghost use Rattle.std.specs.List.{All};
 ghost use Rattle.pay_node.specs.Keeping.{HasFetchedAlone};
 ghost use Rattle.pay_node.specs.Seats.{SeatFields};
-ghost use Rattle.pay_net.specs.Running.{AreAllSeats, others_below};
+ghost use Rattle.pay_net.specs.Running.{others_below};
 ghost use Rattle.pay_net.specs.Seating.{BringsWriters, IsFresh, SeatsOne};
 
 use pay_node::{FetchSeat, Seat};
@@ -11,9 +11,9 @@ use pay_peers::PeerReader;
 use std::alloc::{AllocError, Global};
 use std::sync::Mutex;
 
-/// The seats of a node: each peer's reader has one of its own, the writers to each peer share one,
-/// and the desk has one. The list that they came in is kept, empty: so they go back to it without
-/// new memory.
+/// The seats of a node: each peer's reader has a seat of its own, the writers to each peer share a
+/// seat, and the desk has one. The list that they came in is kept, empty, so they return to it
+/// without an allocation.
 #[derive(Drop)]
 pub(crate) struct Seats {
     pub readers: Vec<(u16, PeerReader)>,
@@ -56,7 +56,7 @@ pub(crate) fn seat_threads(
     })
 }
 
-// Gives the reader of a peer and the writers to it a seat each, and none to the member itself.
+// Gives the reader of `peer` and the writers to it a seat each, and none to the member itself.
 // promise: node's end
 fn seat_peer(
     own: u16,
@@ -83,7 +83,7 @@ fn seat_peer(
     Ok(())
 }
 
-// The last of the seats that are left.
+// Removes and returns the last of the seats that are left.
 fn last_of(left: &mut Vec<Seat>) -> Seat
     requires { 0 < length left.old.items }
     ensures { left.old.items ≡ left.new.items ++ result ∷ [] }
@@ -91,16 +91,14 @@ fn last_of(left: &mut Vec<Seat>) -> Seat
     left.remove(left.len() - 1)
 }
 
-/// All seats in one list, the readers' first and the desk's at its end. They are so many, and have
-/// the stamps below that number.
+/// Returns all seats in one list, the readers' first and the desk's at its end.
 ///
-/// That a seat which was under a lock is still the one that was lent is looked at, for no clause
-/// says so.
-pub(crate) fn gather_seats(count: u16, seats: Seats) -> Result<Vec<Seat>, AllocError>
+/// No clause says that a seat which was under a lock is still the one that was lent. The shutdown
+/// check finds that out.
+pub(crate) fn gather_seats(seats: Seats) -> Result<Vec<Seat>, AllocError>
     requires { seats.left.items ≡ [] }
-    ensures parts { IfOk result (λ all. (writers : List SeatFields) × All HasFetchedAlone writers
+    ensures { IfOk result (λ all. (writers : List SeatFields) × All HasFetchedAlone writers
         × (all.items ≡ (map (λ r. r.1.seat) seats.readers.items ++ writers) ++ seats.desk ∷ [])) }
-    ensures stamped { IfOk result (λ all. AreAllSeats count all.items) }
 {
     let Seats {
         readers,
@@ -112,31 +110,7 @@ pub(crate) fn gather_seats(count: u16, seats: Seats) -> Result<Vec<Seat>, AllocE
     gather_readers(&mut all, readers)?;
     gather_writers(&mut all, writers)?;
     all.push(desk)?;
-    if !are_all(count, all.as_slice()) {
-        return Err(AllocError);
-    }
     Ok(all)
-}
-
-// Whether these are so many seats, of which one has each stamp below their number.
-fn are_all(count: u16, seats: &[Seat]) -> bool
-    ensures { IsTrue result ↔ AreAllSeats count seats.now }
-{
-    if seats.len() != usize::from(count) {
-        return false;
-    }
-    for stamp in 0..count {
-        if !has_stamp(seats, stamp) {
-            return false;
-        }
-    }
-    true
-}
-
-fn has_stamp(seats: &[Seat], stamp: u16) -> bool
-    ensures { IsTrue result ↔ Any (λ s. s.stamp ≡ stamp) seats.now }
-{
-    seats.iter().any(|seat| seat.stamp() == stamp)
 }
 
 fn gather_readers(all: &mut Vec<Seat>, readers: Vec<(u16, PeerReader)>) -> Result<(), AllocError>
@@ -144,7 +118,7 @@ fn gather_readers(all: &mut Vec<Seat>, readers: Vec<(u16, PeerReader)>) -> Resul
         (all.new.items ≡ all.old.items ++ map (λ r. r.1.seat) readers.items) }
 {
     for (_, asking) in readers {
-        let PeerReader { seat, window: _ } = asking;
+        let PeerReader { seat, .. } = asking;
         all.push(seat)?;
     }
     Ok(())

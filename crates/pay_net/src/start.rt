@@ -1,27 +1,68 @@
-//! What a node starts from.
+//! What a node starts from, and why a start is refused.
 
-ghost use Rattle.std.specs.Prelude.{◌≡◌, ◌<◌, ◌≤◌, [], IfOk, IsErrOf, OnOk};
-ghost use Rattle.std.specs.Prelude.{false, length, map, true};
+ghost use Rattle.std.specs.Prelude.{◌≡◌, ◌<◌, ◌≤◌, [], IfOk, IsErrOf, OnOk, false, length, map};
+ghost use Rattle.std.specs.Prelude.{true};
+ghost use Rattle.pay_frame.specs.declared.device.StreamFault.TheVariants.{Memory};
 ghost use Rattle.pay_net.specs.Starting.{AreNoIdsOf, IsKeptOf, KeepsEntry, KeepsNext, LacksId};
 ghost use Rattle.pay_net.specs.Starting.{RefusesEntry};
+ghost use Rattle.pay_net.specs.declared.start.NodeFault.TheVariants.{Engine};
 ghost use Rattle.pay_net.specs.declared.start.StartFault.TheVariants.{Ids};
 ghost use Rattle.pay_node.specs.Nodes.{AreFresh, node_as};
 
 use pay_desk::{Kept, KeptValues};
-use pay_frame::Bytes;
+use pay_frame::{Bytes, StreamFault};
 use pay_member::{Event, HistoryEntry};
-use pay_node::{Beginning, MOST_SEATS, Node, OwnMember, Seat};
-use std::alloc::{AllocError, Global};
+use pay_node::{Beginning, CloseFault, MOST_SEATS, Node, OwnMember, Seat};
+use std::alloc::{AllocError, AllocFailed, Global};
+use std::io::ErrorKind;
 use std::marker::Model;
 use thiserror::Error;
 
-/// Why a node can't start from a member.
+/// The reason why a running node has no member to return.
+#[derive(Clone, Copy, Debug, PartialEq, Eq, Error)]
+pub enum NodeFault {
+    /// The node can't listen on its own port, for this reason.
+    #[error("port {0}")]
+    Port(u16, ErrorKind),
+    /// Memory ran out at the start, or the desk ended with this fault.
+    #[error("engine {0}")]
+    Engine(StreamFault),
+    /// The receipts of the seats and the history don't agree.
+    #[error("close {0}")]
+    Close(CloseFault),
+}
+
+impl From<StreamFault> for NodeFault {
+    ghost from_gives = { λ fault e. e ≡ Engine fault };
+
+    fn from(fault: StreamFault) -> NodeFault {
+        NodeFault::Engine(fault)
+    }
+}
+
+impl From<AllocError> for NodeFault {
+    ghost from_gives = { λ _ e. e ≡ Engine Memory };
+
+    fn from(_: AllocError) -> NodeFault {
+        NodeFault::Engine(StreamFault::Memory)
+    }
+}
+
+impl<T: Drop> From<AllocFailed<T>> for NodeFault {
+    ghost from_gives = { λ _ e. e ≡ Engine Memory };
+
+    fn from(_: AllocFailed<T>) -> NodeFault {
+        NodeFault::Engine(StreamFault::Memory)
+    }
+}
+
+/// The reason why a node can't start from a member.
 #[derive(Clone, Copy, Debug, PartialEq, Eq, Error)]
 pub enum StartFault {
     /// An allocation failed.
     #[error("no memory")]
     Memory,
-    /// The ids aren't one for each value that the member asked for, each another.
+    /// The ids aren't different ids, one for each value that the member submitted.
     #[error("ids of no payments")]
     Ids,
 }
@@ -36,8 +77,8 @@ impl From<AllocError> for StartFault {
     }
 }
 
-/// A member, what its desk keeps of the values that it asked for, and whether it compares that with
-/// what its peers show before it is asked for more.
+/// A member, what its desk keeps of the submitted values, and whether the node makes a rollback
+/// check before it accepts more. A member in memory alone has no rollback check.
 #[derive(Drop)]
 pub struct NodeStart {
     member: OwnMember,
@@ -56,7 +97,7 @@ impl Model for NodeStart {
 }
 
 impl NodeStart {
-    /// A member that took nothing.
+    /// Creates a start of `member`, which has no events.
     // promise: desk goes on; end of a restart
     pub fn fresh(alloc: Global, member: OwnMember) -> NodeStart
         requires { member.history ≡ [] }
@@ -69,36 +110,25 @@ impl NodeStart {
         }
     }
 
-    /// A member that goes on, and the id under which its owner asked for each value, oldest first.
-    // promise: desk goes on; ids (ids, refused); end of a restart
+    /// Creates a start of `member`, which a log keeps, even if its history is empty. `ids` has the
+    /// id of each value that its owner submitted, oldest first. The member may have lost state, so
+    /// it accepts no value before enough peers have shown that they know no more about it.
+    // promise: desk goes on; ids (ids, refused); end of a restart; comparing (compares)
     pub fn again(alloc: Global, member: OwnMember, ids: &[u64]) -> Result<NodeStart, StartFault>
         ensures member { IfOk result (λ start. start.member ≡ member) }
         ensures ids { IfOk result (λ start. map (λ k. k.id) start.kept ≡ ids.now) }
-        ensures compares { IfOk result (λ start. start.compares ≡ false) }
+        ensures compares { IfOk result (λ start. start.compares ≡ true) }
         ensures refused { IsErrOf result Ids → AreNoIdsOf member.history ids.now }
     {
         let kept = kept_of(alloc, member.history(), ids)?;
         Ok(NodeStart {
             member,
             kept,
-            compares: false,
+            compares: true,
         })
     }
 
-    /// The same start, of a member that may have forgotten what it sent: it is asked for nothing
-    /// before enough peers have shown that they know no more of it.
-    // promise: comparing
-    pub fn comparing(self) -> NodeStart
-        ensures { result ≡ record self { compares = true } }
-    {
-        NodeStart {
-            member: self.member,
-            kept: self.kept,
-            compares: true,
-        }
-    }
-
-    /// The member's own number.
+    /// Returns the member's own number.
     pub(crate) fn own(&self) -> u16
         ensures own { result ≡ self.now.member.keys.own }
         ensures within { result < length self.now.member.keys.keys }
@@ -106,7 +136,7 @@ impl NodeStart {
         self.member.keys().own()
     }
 
-    /// The member, what its desk keeps, and whether it compares.
+    /// Returns the member, what its desk keeps, and whether the node makes a rollback check.
     pub(crate) fn into_parts(self) -> (OwnMember, KeptValues, bool)
         ensures member { result.0 ≡ self.member }
         ensures kept { result.1 ≡ self.kept }
@@ -117,7 +147,7 @@ impl NodeStart {
     }
 }
 
-/// The node of a member with so many seats, which compares what its peers show or not.
+/// Creates the node of a member with `seats` seats, with or without a rollback check.
 pub(crate) fn node_of<S: Beginning>(
     alloc: Global,
     member: OwnMember,
@@ -136,7 +166,7 @@ pub(crate) fn node_of<S: Beginning>(
     }
 }
 
-// What a desk keeps of the values that a history asked for, under these ids.
+// Returns what a desk keeps of the values that a history submitted, under these `ids`.
 fn kept_of(alloc: Global, history: &[HistoryEntry], ids: &[u64]) -> Result<KeptValues, StartFault>
     ensures kept { IfOk result (λ kept. IsKeptOf history.now kept) }
     ensures ids { IfOk result (λ kept. map (λ k. k.id) kept ≡ ids.now) }
@@ -152,7 +182,7 @@ fn kept_of(alloc: Global, history: &[HistoryEntry], ids: &[u64]) -> Result<KeptV
     Ok(kept)
 }
 
-// Keeps the value that an entry asked for, if it did, under the id that is next.
+// Keeps the value that an entry submitted, if it did, under the next id.
 fn keep_entry(
     alloc: Global,
     kept: &mut KeptValues,
@@ -168,7 +198,7 @@ fn keep_entry(
     }
 }
 
-// Keeps a value under the id that is next, with its number.
+// Keeps a value under the next id, with its number.
 fn keep_next(
     alloc: Global,
     kept: &mut KeptValues,

@@ -1,48 +1,43 @@
-//! Who works beside a node's desk until the node stops.
+//! The workers beside a node's desk, until the node stops.
 
 ghost use Rattle.std.specs.Prelude.{◌≡◌, ◌++◌, ◌∷◌, List, [], IfOk};
-ghost use Rattle.pay_peers.specs.Growing.{EachGrows};
+ghost use Rattle.pay_net.specs.Workers.{AllWorked, EndsInReader, HasWorked};
 ghost use Rattle.pay_net.specs.declared.workers.Worker.{Worker};
 ghost use Rattle.pay_net.specs.declared.workers.Worker.TheVariants.{Read};
-ghost use Rattle.pay_net.specs.Workers.{AllWorked, EndsInReader, HasWorked};
+ghost use Rattle.pay_peers.specs.Growing.{EachGrows};
 
-use crate::accepting::{Answering, Host, accept_all};
-use crate::clients::Clients;
+use crate::accepting::{Answering, accept_all};
+use crate::clients::{Clients, FirstDesk, NodeDesk};
+use crate::contacts::News;
 use crate::dialing::Dialer;
-use crate::figures::Watcher;
-use crate::news::News;
-use crate::noticing::Noticing;
-use crate::running::Running;
-use crate::runtime::NodeRuntime;
-use crate::watching::Watching;
-use pay_desk::{Service, SharedDesk, Teller};
+use crate::running::{NodeRuntime, Running};
+use crate::watching::{Noticing, Watcher, Watching};
 use pay_durable::Keeper;
 use pay_node::{Beginning, OpenGate};
 use pay_peers::{NodeContext, Observer, PeerReader, run_readers};
 use std::alloc::{AllocError, Global};
+use std::sync::Mutex;
 use std::thread;
 use std::time::Duration;
 
-// change: what a node's threads do: what they wait for and what ends it: `src/waits.rt`;
-//   `tests/test_node.py`
-/// What one thread of a node does until the node stops.
+/// What a thread of a node does until the node stops.
 #[derive(Drop)]
 pub(crate) enum Worker {
-    /// Looks whether the member has forgotten what it sent, or memory stays refused.
+    /// Looks whether the member has lost state or is out of memory.
     Notice,
     /// Answers the clients on the desk's socket, each in a thread of its own.
     Welcome,
     /// Answers the peers that connect, each connection in a thread of its own.
     Accept,
-    /// Shows the node's figures, so long after each other.
+    /// Shows the node's metrics in intervals of this length.
     Show(Duration),
     /// Reads from all peers, each in a thread of its own, and has their seats.
     Read(Vec<(u16, PeerReader)>),
 }
 
-/// Those who work for a node that has these readers, and a socket or not.
+/// Returns the workers of a node that has these `readers`, with or without a socket.
 ///
-/// The reader is the last: where no thread can be had, it works and the others wait.
+/// The reader is the last: if no thread can be made, it works and the others wait.
 pub(crate) fn workers_of(
     alloc: Global,
     has_socket: bool,
@@ -65,7 +60,7 @@ pub(crate) fn workers_of(
     Ok(workers)
 }
 
-/// The readers, once all workers have ended.
+/// Returns the readers, after all workers have ended.
 pub(crate) fn readers_of(workers: Vec<Worker>) -> Vec<(u16, PeerReader)>
     requires { EndsInReader workers.items }
     ensures { (others : List Worker) × (workers.items ≡ others ++ Read result ∷ []) }
@@ -80,37 +75,13 @@ pub(crate) fn readers_of(workers: Vec<Worker>) -> Vec<(u16, PeerReader)>
 impl<H, S, O, K> Running<'_, H, S, O, K>
 where
     H: NodeRuntime,
-    S: Beginning + Send + Sync,
+    S: Beginning + FirstDesk + Send + Sync,
     O: Observer<News> + Watcher + Sync,
     K: Keeper + Sync,
 {
-    /// Runs all workers, and answers clients by this desk.
-    pub(crate) fn work_for<W, V>(&self, desk: &SharedDesk<W, V>, workers: &mut Vec<Worker>)
-    where
-        W: Teller + Drop + Send,
-        V: Service<W> + Send,
-        ensures { AllWorked workers.old.items workers.new.items }
-    {
-        let NodeContext {
-            rt,
-            alloc,
-            node,
-            ..
-        } = *self.context;
-        let clients = Clients {
-            rt,
-            alloc,
-            node,
-            keeper: self.config.keeper,
-            desk,
-            connections: &self.waits.clients,
-            stop: &self.waits.stop,
-        };
-        self.work_all(&clients, workers);
-    }
-
-    /// Runs all workers, each in a thread of its own, until told to stop.
-    pub(crate) fn work_all<C: Host + Sync>(&self, clients: &C, workers: &mut Vec<Worker>)
+    /// Runs all workers, each in a thread of its own, until the node stops. `desk` answers the
+    /// clients on the socket.
+    pub(crate) fn work_all(&self, desk: &Mutex<NodeDesk<'_, H, S, K>>, workers: &mut Vec<Worker>)
         ensures { AllWorked workers.old.items workers.new.items }
     {
         let threads = workers.len().max(1);
@@ -120,17 +91,17 @@ where
             threads,
             &|_, worker: &mut Worker|
                 ensures { HasWorked worker.entry.now worker.exit.now }
-            { self.work(clients, worker) },
+            { self.work(desk, worker) },
         );
     }
 
-    // One worker.
-    fn work<C: Host + Sync>(&self, clients: &C, worker: &mut Worker)
+    // Runs a worker.
+    fn work(&self, desk: &Mutex<NodeDesk<'_, H, S, K>>, worker: &mut Worker)
         ensures { HasWorked worker.old worker.new }
     {
         match worker {
             Worker::Notice => self.notice(),
-            Worker::Welcome => self.welcome(clients),
+            Worker::Welcome => self.welcome(desk),
             Worker::Accept => self.accept(),
             Worker::Show(every) => self.show(*every),
             Worker::Read(readers) => self.read(readers.as_mut_slice()),
@@ -149,9 +120,24 @@ where
         noticing.run();
     }
 
-    fn welcome<C: Host + Sync>(&self, clients: &C) {
+    fn welcome(&self, desk: &Mutex<NodeDesk<'_, H, S, K>>) {
+        let NodeContext {
+            rt,
+            alloc,
+            node,
+            ..
+        } = *self.context;
+        let clients = Clients {
+            rt,
+            alloc,
+            node,
+            keeper: self.config.keeper,
+            desk,
+            connections: &self.waits.clients,
+            stop: &self.waits.stop,
+        };
         if let Some(socket) = self.waits.socket {
-            accept_all(self.context.rt, clients, &self.waits.stop, socket);
+            accept_all(rt, &clients, &self.waits.stop, socket);
         }
     }
 

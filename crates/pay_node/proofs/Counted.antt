@@ -9,11 +9,11 @@ use Rattle.pay_channel.specs.Taken.{is_from, next}
 use Rattle.pay_channel.specs.TakenLaws.{NextIsCount}
 use Rattle.pay_link.specs.Checked.{CheckedFields}
 use Rattle.pay_member.specs.Answer.{IsAnswer, answer_of_take}
-use Rattle.pay_member.specs.declared.entry.HistoryEntry.{HistoryEntry}
+use Rattle.pay_member.specs.declared.event.HistoryEntry.{HistoryEntry}
 use Rattle.pay_member.specs.declared.event.Event.TheVariants.{Taken}
-use Rattle.pay_member.specs.declared.reply.Reply.TheVariants as reply
-use Rattle.pay_member.specs.declared.take_fault.TakeFault.{TakeFault}
-use Rattle.pay_member.specs.declared.took.Took.{Took}
+use Rattle.pay_member.specs.declared.event.Reply.TheVariants as reply
+use Rattle.pay_member.specs.declared.fault.TakeFault.{TakeFault}
+use Rattle.pay_member.specs.declared.event.Took.{Took}
 use Rattle.pay_member.specs.Events.{channel_event, events}
 use Rattle.pay_member.specs.Member.{MemberFields, with_entry}
 use Rattle.pay_member.specs.Refusal.{refusal, is_for_member, turn_refusal}

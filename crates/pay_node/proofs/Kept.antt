@@ -11,7 +11,7 @@ use Rattle.pay_member.specs.Member.{MemberFields}
 use Rattle.pay_member.specs.Reading.{fetched_bodies}
 use Rattle.pay_member.specs.declared.reading.Reading.TheVariants as reading
 use Rattle.pay_member.specs.Questions.{Shows}
-use Rattle.pay_node.specs.declared.call.Call.TheVariants.{Read}
+use Rattle.pay_node.specs.declared.receipt.Call.TheVariants.{Read}
 use Rattle.pay_node.specs.Receipts.{ReceiptFields}
 use Rattle.pay_node.specs.Keeping.{HasFetched, HasFetchedAlone, IsFetch, IsFetched, IsKeptFor, IsKeptOnce, IsNoted, mark_of}
 use Rattle.pay_node.specs.Nodes.{IsOwn, NodeFields}

@@ -1,3 +1,4 @@
+mod Claims
 pub mod Counted
 pub mod Fresh
 pub mod Judged

@@ -2,7 +2,7 @@
 use Rattle.std.proofs.Common.{◌≡◌, ◌≢◌, ℕ, List, Some, None, eqb, get_or, map, ap, ◌∙◌, sym}
 use Rattle.std.proofs.Math.ListN.{get_or-map}
 use Rattle.std.proofs.lemmas.Bool.{ne_eqb, cond-false}
-use Rattle.pay_node.specs.declared.marks.TheConstants.{NO_PLACE}
+use Rattle.pay_node.specs.declared.seat.TheConstants.{NO_PLACE}
 use Rattle.pay_node.specs.Keeping.{mark_of, marked_place}
 
 pub mark_is : (places : List ℕ) (number : ℕ) → mark_of (map marked_place places) number ≡ marked_place (get_or places number NO_PLACE)

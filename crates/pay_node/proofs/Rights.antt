@@ -8,9 +8,9 @@ use Rattle.std.proofs.lemmas.List.Sums.{sum_by_push}
 use Rattle.std.proofs.lemmas.Option.{slice_get_within, slice_get-get_or, get_or_from_slice_get}
 use Rattle.std.proofs.lemmas.Bool.{eq-eqb, ne_eqb}
 use Rattle.pay_member.specs.Answer.{IsAnswer}
-use Rattle.pay_member.specs.declared.entry.HistoryEntry.{HistoryEntry}
+use Rattle.pay_member.specs.declared.event.HistoryEntry.{HistoryEntry}
 use Rattle.pay_member.specs.declared.event.Event.{Event}
-use Rattle.pay_member.specs.declared.reply.Reply.{Reply}
+use Rattle.pay_member.specs.declared.event.Reply.{Reply}
 use Rattle.pay_member.specs.declared.fault.MemberFault.{MemberFault}
 use Rattle.pay_member.specs.declared.fault.MemberFault.TheVariants.{Memory, Spent, TooLong, Repeat, Gap, WrongKey, NoAccount}
 use Rattle.pay_member.specs.Events.{events}
@@ -19,8 +19,8 @@ use Rattle.pay_member.specs.Refusal.{refusal}
 use Rattle.pay_member.specs.declared.reading.Reading.{Reading}
 use Rattle.pay_member.specs.Questions.{Shows}
 use Rattle.pay_node.specs.Nodes.{WentOn}
-use Rattle.pay_node.specs.declared.call.Call.{Call}
-use Rattle.pay_node.specs.declared.call.Call.TheVariants.{Handed, Read}
+use Rattle.pay_node.specs.declared.receipt.Call.{Call}
+use Rattle.pay_node.specs.declared.receipt.Call.TheVariants.{Handed, Read}
 use Rattle.pay_node.specs.Receipts.{ReceiptFields}
 use Rattle.pay_node.specs.Receipts.{IsConsistent, has_entry, entries_after, receipts_of, reading_receipt}
 use Rattle.pay_node.specs.Seats.{HandingInStaysRight, behind, SeatFields, with_receipts, entries_told, entries_under, since, Right, StaysRight}

@@ -1,7 +1,7 @@
 -- The answer to a frame tells whether the sent list has grown by it.
 use Rattle.std.proofs.Common.{◌≡◌, ◌↔◌, ℕ, ◌+◌, ◌<◌, Bool, true, false, ◌||◌, IsTrue, Option, Some, None, Result, Ok, Err, List, [], ◌∷◌, ◌++◌, length, refl, sym, ap, ap₂, ◌∙◌, arith, length-append}
-use Rattle.pay_frame.specs.declared.kind.Kind.{Kind}
-use Rattle.pay_frame.specs.declared.kind.Kind.TheVariants.{Echo, Ready}
+use Rattle.pay_frame.specs.declared.body.Kind.{Kind}
+use Rattle.pay_frame.specs.declared.body.Kind.TheVariants.{Echo, Ready}
 use Rattle.pay_frame.specs.Frame.{BodyFields}
 use Rattle.pay_echo.specs.Broadcast.{echoed, readied}
 use Rattle.pay_echo.specs.Meaning.{became}
@@ -10,11 +10,11 @@ use Rattle.pay_channel.specs.History.{newly, out, says, votes}
 use Rattle.pay_channel.specs.SentLaws.{OutByOneMore}
 use Rattle.pay_link.specs.Checked.{CheckedFields}
 use Rattle.pay_link.specs.Genesis.{GenesisFields}
-use Rattle.pay_member.specs.declared.entry.HistoryEntry.{HistoryEntry}
+use Rattle.pay_member.specs.declared.event.HistoryEntry.{HistoryEntry}
 use Rattle.pay_member.specs.declared.event.Event.TheVariants.{Taken}
-use Rattle.pay_member.specs.declared.reply.Reply.TheVariants as reply
-use Rattle.pay_member.specs.declared.take_fault.TakeFault.{TakeFault}
-use Rattle.pay_member.specs.declared.took.Took.{Took}
+use Rattle.pay_member.specs.declared.event.Reply.TheVariants as reply
+use Rattle.pay_member.specs.declared.fault.TakeFault.{TakeFault}
+use Rattle.pay_member.specs.declared.event.Took.{Took}
 use Rattle.pay_member.specs.Answer.{IsAnswer}
 use Rattle.pay_member.specs.EventLaws.{EventsByOneMore}
 use Rattle.pay_member.specs.Events.{events}

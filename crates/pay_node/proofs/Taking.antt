@@ -1,20 +1,20 @@
 -- What is answered of a frame, by the member's answer.
 use Rattle.std.proofs.Common.{◌≡◌, ◌≢◌, ℕ, List, Result, Ok, Err, None, refl, ap, ◌∙◌, subst}
-use Rattle.pay_frame.specs.declared.fault.FrameFault.{FrameFault}
+use Rattle.pay_frame.specs.declared.reading.FrameFault.{FrameFault}
 use Rattle.pay_frame.specs.Frame.{FrameFields}
 use Rattle.pay_frame.specs.OneFrame.{IsOneFrame, IsOneReading}
 use Rattle.pay_link.specs.Checked.{checked_fields}
 use Rattle.pay_link.specs.Opening.{OpenedFields}
-use Rattle.pay_link.specs.declared.link_fault.LinkFault.{LinkFault}
-use Rattle.pay_member.specs.declared.brought.Brought.{Brought}
+use Rattle.pay_link.specs.declared.opened.LinkFault.{LinkFault}
+use Rattle.pay_member.specs.declared.bringing.Brought.{Brought}
 use Rattle.pay_member.specs.declared.event.Event.TheVariants.{Taken}
-use Rattle.pay_member.specs.declared.incoming.Incoming.{Incoming}
-use Rattle.pay_member.specs.declared.incoming.Incoming.TheVariants.{Message, Want}
-use Rattle.pay_member.specs.declared.received.Received.{Received}
-use Rattle.pay_member.specs.declared.take_fault.TakeFault.{TakeFault}
-use Rattle.pay_member.specs.declared.take_fault.TakeFault.TheVariants.{Memory}
-use Rattle.pay_member.specs.declared.took.Took.{Took}
-use Rattle.pay_member.specs.declared.outcome.Outcome.TheVariants as outcome
+use Rattle.pay_member.specs.declared.bringing.Incoming.{Incoming}
+use Rattle.pay_member.specs.declared.bringing.Incoming.TheVariants.{Message, Want}
+use Rattle.pay_member.specs.declared.ledger.Received.{Received}
+use Rattle.pay_member.specs.declared.fault.TakeFault.{TakeFault}
+use Rattle.pay_member.specs.declared.fault.TakeFault.TheVariants.{Memory}
+use Rattle.pay_member.specs.declared.event.Took.{Took}
+use Rattle.pay_member.specs.declared.bringing.Outcome.TheVariants as outcome
 use Rattle.pay_member.specs.Answer.{answer_of_take}
 use Rattle.pay_member.specs.Bringing.{answered_at_once, with_want}
 use Rattle.pay_node.specs.Nodes.{NodeFields, IsAnswered, IsAnsweredAs, IsBrought, IsReceived, IsTaken, next_of, outcome_of_take}

@@ -1,7 +1,7 @@
--- The number and the name under which each fault of closing is printed.
+-- The number and the name that each fault of the shutdown check is printed with.
 use Rattle.std.specs.Prelude.{ℕ, List, ◌++◌, codes, decimal}
-use Rattle.pay_node.specs.declared.close_fault.CloseFault.{CloseFault}
-use Rattle.pay_node.specs.declared.close_fault.CloseFault.TheVariants.{Memory, Mismatch}
+use Rattle.pay_node.specs.declared.closing.CloseFault.{CloseFault}
+use Rattle.pay_node.specs.declared.closing.CloseFault.TheVariants.{Memory, Mismatch}
 
 abbrev pub close_fault_number : CloseFault → ℕ
 close_fault_number (Memory uncounted) = 0

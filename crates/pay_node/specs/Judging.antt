@@ -1,4 +1,4 @@
--- Receipts taken one after the other, as a judge does that replays the history beside them.
+-- Receipts one after the other, as a judge takes them that replays the history beside them.
 use Rattle.std.specs.Prelude.{◌≡◌, ℕ, ◌≤◌, List, [], ◌∷◌, take, length, slice_get, slice_index}
 use Rattle.std.specs.Prelude.{Some, ⊤}
 use Rattle.std.specs.List.{All}
@@ -7,12 +7,12 @@ use Rattle.pay_node.specs.Receipts.{ReceiptFields}
 use Rattle.pay_node.specs.Receipts.{IsConsistent, entries_after}
 use Rattle.pay_node.specs.Seats.{SeatFields}
 
--- a receipt is consistent, and saw at least so many entries
+-- a receipt is consistent, and saw at least `least` entries
 pub record IsNextConsistent (m : MemberFields) (stamp least : ℕ) (r : ReceiptFields) : Type 0 where
   pub ahead : least ≤ r.seen
   pub is : IsConsistent m stamp r.seen r.call
 
--- so are all, each behind what the one before it left
+-- all receipts are consistent, each after what the one before it left
 abbrev pub AreConsistent : MemberFields → ℕ → ℕ → List ReceiptFields → Type 0
 AreConsistent m stamp least [] = ⊤
 AreConsistent m stamp least (r ∷ rs) =
@@ -25,7 +25,7 @@ abbrev pub FirstConsistent : MemberFields → SeatFields → ℕ → Type 0
 FirstConsistent m seat count =
     All (λ r. IsConsistent m seat.stamp r.seen r.call) (take count seat.receipts)
 
--- of each seat as many as its count says
+-- for each seat, as many receipts as its count says are consistent
 abbrev pub CountedConsistent : MemberFields → List SeatFields → List ℕ → Type 0
 CountedConsistent m seats counts =
     (k : ℕ) (seat : SeatFields) → slice_get seats k ≡ Some seat

@@ -1,5 +1,5 @@
--- Bodies whose receipts are kept, so that each is fetched from a seat as often as is liked and
--- shown on one receipt.
+-- Bodies with receipts that are kept, so that a body can be fetched from a seat any number of times
+-- and is shown on one receipt.
 use Rattle.std.specs.Prelude.{◌≡◌, ◌≢◌, ◌⊎◌, ℕ, ◌≤◌, ◌==◌, max, List, [], ◌∷◌, ◌++◌, length}
 use Rattle.std.specs.Prelude.{slice_get, slice_index_or, Option, Some, None, if◌then◌else◌}
 use Rattle.std.specs.List.{All}
@@ -8,9 +8,9 @@ use Rattle.pay_member.specs.Legal.{Legal}
 use Rattle.pay_member.specs.Member.{MemberFields}
 use Rattle.pay_member.specs.declared.reading.Reading.TheVariants as reading
 use Rattle.pay_member.specs.Questions.{Shows}
-use Rattle.pay_node.specs.declared.call.Call.{Call}
-use Rattle.pay_node.specs.declared.call.Call.TheVariants.{Read}
-use Rattle.pay_node.specs.declared.marks.TheConstants.{NO_PLACE}
+use Rattle.pay_node.specs.declared.receipt.Call.{Call}
+use Rattle.pay_node.specs.declared.receipt.Call.TheVariants.{Read}
+use Rattle.pay_node.specs.declared.seat.TheConstants.{NO_PLACE}
 use Rattle.pay_node.specs.Receipts.{ReceiptFields}
 use Rattle.pay_node.specs.Nodes.{IsOwn, IsShown, NodeFields}
 use Rattle.pay_node.specs.Receipts.{ShowsAlone, reading_at, reading_receipt}
@@ -33,9 +33,9 @@ pub record IsKeptFor (seat : SeatFields) (number : ℕ) (body : BodyFields) : Ty
   pub there : slice_get seat.receipts place ≡ Some receipt
   pub shows : ShowsAlone receipt number body
 
--- The member sent this body at the number, and the seat keeps a receipt that shows it. If it did so
--- before, nothing changes; else it has a receipt more, if any. What is kept of other numbers stays.
--- There are no more marks than bodies that were sent, if there weren't before.
+-- The member sent this body at the number, and the seat keeps a receipt that shows it. If the seat
+-- had one before, nothing changes. Otherwise it has at most one more receipt. What is kept of other
+-- numbers stays. There are no more marks than sent bodies, if there weren't before.
 pub record IsKeptOnce (m : MemberFields) (before after : SeatFields) (number : ℕ)
     (body : BodyFields) : Type 0 where
   pub sent : slice_get (sent_by m) number ≡ Some body
@@ -51,7 +51,7 @@ pub record IsKeptOnce (m : MemberFields) (before after : SeatFields) (number : �
       (k : ℕ) (other : BodyFields) → k ≢ number → IsKeptFor before k other → IsKeptFor after k other
   pub few : length after.marks ≤ max (length before.marks) (length (sent_by m))
 
--- The same, or the member sent no such body, and a receipt says so.
+-- The seat keeps a receipt of the body, or the member sent no such body, and a receipt says so.
 abbrev pub IsNoted : MemberFields → SeatFields → SeatFields → ℕ → Option BodyFields → Type 0
 IsNoted m before after number (Some body) = IsKeptOnce m before after number body
 IsNoted m before after number None =
@@ -74,7 +74,7 @@ IsFetched n before after number (Some body) = IsShownOnce n before after number 
 IsFetched n before after number None =
     IsShown n before after (reading.Sent number 1 [])
 
--- so from some seat
+-- what is fetched of a number from some seat
 pub record HasFetched (n : NodeFields) (number : ℕ) (found : Option BodyFields) : Type 0 where
   pub before : SeatFields
   pub after : SeatFields
@@ -88,6 +88,6 @@ pub record IsFetch (call : Call) : Type 0 where
   pub bodies : List BodyFields
   pub is : call ≡ Read (reading.Sent number 1 bodies)
 
--- nothing was called from the seat but fetches: it has grown from a fresh one by those alone
+-- only fetches were called from the seat: it has grown from a fresh seat by those alone
 abbrev pub HasFetchedAlone : SeatFields → Type 0
 HasFetchedAlone seat = All (λ r. IsFetch r.call) seat.receipts

@@ -1,11 +1,11 @@
--- Receipts of a node's calls, and when a history is consistent with one.
+-- Receipts of a node's calls, and when a history is consistent with a receipt.
 use Rattle.std.specs.Prelude.{◌≡◌, ℕ, ◌+◌, ◌≤◌, Bool, true, false, if◌then◌else◌, List, [], ◌∷◌}
 use Rattle.std.specs.Prelude.{take, length, slice_get, Option, Some, None, Result, Ok, Err}
 use Rattle.pay_frame.specs.Frame.{BodyFields}
 use Rattle.pay_member.specs.declared.event.Event.{Event}
 use Rattle.pay_member.specs.declared.event.Event.TheVariants.{Taken}
-use Rattle.pay_member.specs.declared.reply.Reply.{Reply}
-use Rattle.pay_member.specs.declared.reply.Reply.TheVariants.{Took}
+use Rattle.pay_member.specs.declared.event.Reply.{Reply}
+use Rattle.pay_member.specs.declared.event.Reply.TheVariants.{Took}
 use Rattle.pay_member.specs.declared.fault.MemberFault.{MemberFault}
 use Rattle.pay_member.specs.declared.fault.MemberFault.TheVariants.{Memory, Spent, TooLong, Repeat}
 use Rattle.pay_member.specs.declared.fault.MemberFault.TheVariants.{Gap, WrongKey, NoAccount}
@@ -15,26 +15,26 @@ use Rattle.pay_member.specs.Events.{events}
 use Rattle.pay_member.specs.Questions.{Shows}
 use Rattle.pay_member.specs.Refusal.{refusal}
 use Rattle.pay_member.specs.Member.{MemberFields, back_at}
-use Rattle.pay_node.specs.declared.call.Call.{Call}
-use Rattle.pay_node.specs.declared.call.Call.TheVariants.{Handed, Read}
+use Rattle.pay_node.specs.declared.receipt.Call.{Call}
+use Rattle.pay_node.specs.declared.receipt.Call.TheVariants.{Handed, Read}
 use Rattle.pay_node.specs.declared.receipt.KeptCall.{KeptCall}
 use Rattle.pay_node.specs.declared.receipt.KeptCall.TheVariants as kept
 
--- One answered call of a seat: how many entries the history had before it, which is the place of
--- its own entry, if it has one, and the call with its answer.
+-- An answered call of a seat: how many entries the history had before it, and the call with its
+-- answer. The count is the place of the call's own entry, if it has one.
 pub record ReceiptFields : Type 0 where
   pub seen : ℕ
   pub call : Call
 
--- the call that is kept so
+-- the call that is kept in this form
 abbrev pub call_in : KeptCall → Call
 call_in (kept.Taken frame took) = Handed (Taken frame) (Ok (Took took))
 call_in (kept.Sent number body) = Read (reading.Sent number 1 (body ∷ []))
 call_in (kept.Other call) = call.value
 
--- A call was answered so under a stamp when the history had so many entries. A reply stands there
--- as an entry, with what was handed in; a refusal is the one that the entries before call for, and
--- what was read is what they show.
+-- A call was answered under a stamp when the history had `seen` entries. A reply stands there as an
+-- entry, with what was handed in. A refusal is the one that the entries before require, and what
+-- was read is what they show.
 abbrev pub IsConsistent : MemberFields → ℕ → ℕ → Call → Type 0
 IsConsistent m stamp seen (Handed event (Ok reply)) =
     slice_get m.history seen ≡ Some (record { stamp = stamp; event = event; reply = reply })
@@ -49,17 +49,17 @@ has_entry (Handed event (Ok reply)) = true
 has_entry (Handed event (Err fault)) = false
 has_entry (Read reading) = false
 
--- why what was handed in was refused, if it was
+-- why the event that was handed in was refused, if it was
 abbrev pub fault_of_call : Call → Option MemberFault
 fault_of_call (Handed event (Ok reply)) = None
 fault_of_call (Handed event (Err fault)) = Some fault
 fault_of_call (Read reading) = None
 
--- how many entries the history had once the call was answered
+-- how many entries the history had after the call was answered
 abbrev pub entries_after : ReceiptFields → ℕ
 entries_after r = if has_entry r.call then r.seen + 1 else r.seen
 
--- of an answer one receipt, and none of refused memory
+-- one receipt of an answer, and none of a lack of memory
 abbrev pub receipts_of : ℕ → Event → Result Reply MemberFault → List ReceiptFields
 receipts_of seen event (Ok reply) = record { seen = seen; call = Handed event (Ok reply) } ∷ []
 receipts_of seen event (Err Memory) = []
@@ -75,7 +75,7 @@ receipts_of seen event (Err WrongKey) =
 receipts_of seen event (Err NoAccount) =
     record { seen = seen; call = Handed event (Err NoAccount) } ∷ []
 
--- of what was read
+-- the receipt of a reading
 abbrev pub reading_at : ℕ → Reading → ReceiptFields
 reading_at seen reading = record { seen = seen; call = Read reading }
 

@@ -1,10 +1,10 @@
--- Seats, and when a history is consistent with all that a seat was told.
+-- Seats, and when a history is consistent with all receipts of a seat.
 use Rattle.std.specs.Prelude.{◌≡◌, ◌≢◌, ◌⊎◌, ℕ, ◌+◌, ◌≤◌, ◌-◌, ◌==◌, List, [], ◌∷◌, ◌++◌, Option}
 use Rattle.std.specs.Prelude.{Some, false, drop, length, slice_get, Result, Ok, Err}
 use Rattle.std.specs.List.{All, AllPairs, count_by}
 use Rattle.pay_member.specs.declared.event.Event.{Event}
 use Rattle.pay_member.specs.declared.fault.MemberFault.{MemberFault}
-use Rattle.pay_member.specs.declared.reply.Reply.{Reply}
+use Rattle.pay_member.specs.declared.event.Reply.{Reply}
 use Rattle.pay_member.specs.Answer.{IsAnswer}
 use Rattle.pay_member.specs.Legal.{Legal}
 use Rattle.pay_member.specs.Member.{MemberFields, with_entry}
@@ -12,8 +12,8 @@ use Rattle.pay_node.specs.Receipts.{ReceiptFields}
 use Rattle.pay_node.specs.declared.seat.TheConstants.{LATEST}
 use Rattle.pay_node.specs.Receipts.{IsConsistent, has_entry, entries_after, receipts_of}
 
--- A stamp, the receipts of the calls that were made under it, oldest first, and the marks: at which
--- place among them is that of a number's body, if it is kept.
+-- A stamp, the receipts of the calls that were made under it, oldest first, and the marks. A mark
+-- is the place of the receipt of a number's body, if it is kept.
 pub record SeatFields : Type 0 where
   pub stamp : ℕ
   pub receipts : List ReceiptFields
@@ -22,19 +22,19 @@ pub record SeatFields : Type 0 where
 abbrev pub with_receipts : SeatFields → List ReceiptFields → SeatFields
 with_receipts seat more = record seat { receipts = seat.receipts ++ more }
 
--- the last receipts, in which one is looked for before it is left once more
+-- the last receipts, among which an equal one is looked for
 abbrev pub latest : SeatFields → List ReceiptFields
 latest seat = drop (length seat.receipts - LATEST) seat.receipts
 
--- The receipt is among these, and is of now, as far as they tell: no later one saw more entries, or
--- made one.
+-- The receipt is among these, and is of now, as far as they tell: no later receipt saw more
+-- entries, or has an entry.
 pub record IsOfNow (receipts : List ReceiptFields) (r : ReceiptFields) : Type 0 where
   pub place : ℕ
   pub is : slice_get receipts place ≡ Some r
   pub still : All (λ later. entries_after later ≤ r.seen) (drop (place + 1) receipts)
 
--- The seat keeps this receipt, which is of now. If it was so among the latest, nothing changes;
--- else the seat has a receipt more, if any.
+-- The seat keeps this receipt, which is of now. If it was among the latest before, nothing changes.
+-- Otherwise the seat has at most one more receipt.
 pub record KeepsReceipt (before after : SeatFields) (r : ReceiptFields) : Type 0 where
   pub kept : IsOfNow after.receipts r
   pub once : IsOfNow (latest before) r → after ≡ before
@@ -52,28 +52,30 @@ entries_under stamp m = count_by (λ e. e.stamp == stamp) m.history
 abbrev pub since : ℕ → MemberFields → MemberFields
 since base m = record m { history = drop base m.history }
 
--- from the base on, the history has as many entries under the seat's stamp as the seat was told of
+-- from the base on, the history has as many entries under the seat's stamp as the seat's receipts
+-- tell
 unfoldable pub HasItsEntries : MemberFields → ℕ → SeatFields → Type 0
 HasItsEntries m base seat = entries_under seat.stamp (since base m) ≡ entries_told seat
 
--- From the base on, the history has as many entries under the seat's stamp as the seat was told of.
--- Each receipt saw those before the base and is consistent with the history, and none saw fewer
--- entries than there were when one before it was answered.
+-- From the base on, the history has as many entries under the seat's stamp as the seat's receipts
+-- tell. Each receipt saw those before the base and is consistent with the history. No receipt saw
+-- fewer entries than there were when an earlier one was answered.
 -- page: `Right`, `IsConsistent`: a history is consistent with a seat: it has as many entries under
---   its stamp as the seat was told of; no call saw fewer entries than there were when the one
---   before was answered; each receipt's reply is at the place that was seen, its refusal or
---   reading what the entries before call for
+--   its stamp as the seat's receipts tell; no call saw fewer entries than there were when the one
+--   before was answered; each receipt's reply is at the place that was seen, its refusal or reading
+--   what the entries before require
 pub record Right (m : MemberFields) (base : ℕ) (seat : SeatFields) : Type 0 where
   pub counted : entries_under seat.stamp (since base m) ≡ entries_told seat
   pub each : All (λ r. (base ≤ r.seen) × IsConsistent m seat.stamp r.seen r.call) seat.receipts
   pub ordered : AllPairs (λ r later. entries_after r ≤ later.seen) seat.receipts
 
--- If this seat was right by this member, from whatever base, that one is by that member.
+-- If the first seat was right for the first member, from whatever base, the second seat is right
+-- for the second member.
 abbrev pub StaysRight : MemberFields → SeatFields → MemberFields → SeatFields → Type 0
 StaysRight m seat now after =
     (base : ℕ) → base ≤ length m.history → Right m base seat → Right now base after
 
--- the member behind an event, which is unchanged where it refused that
+-- the member after an event, unchanged if it refused the event
 abbrev pub behind : MemberFields → ℕ → Event → Result Reply MemberFault → MemberFields
 behind m stamp event (Ok reply) =
     with_entry m (record { stamp = stamp; event = event; reply = reply })
@@ -88,7 +90,8 @@ pub record IsHandedIn (m : MemberFields) (seat : SeatFields) (event : Event)
   pub member : now ≡ behind m seat.stamp event answer
   pub receipt : after ≡ with_receipts seat (receipts_of (length m.history) event answer)
 
--- What was right stays so by what is handed in: that seat, and each with another stamp.
+-- What was right stays right when an event is handed in: that seat, and each seat with another
+-- stamp.
 abbrev pub HandingInStaysRight : Type 0
 HandingInStaysRight =
     (m now : MemberFields) (seat after : SeatFields) (event : Event)
@@ -97,7 +100,8 @@ HandingInStaysRight =
     → StaysRight m seat now after
     × ((other : SeatFields) → other.stamp ≢ seat.stamp → StaysRight m other now other)
 
--- A reading whose receipt is of now counts as one that left another: closing judges it by the same.
+-- A reading with a receipt of now counts as a reading that left another one: the shutdown check
+-- judges it in this way.
 abbrev pub KeptCountsAsLeft : Type 0
 KeptCountsAsLeft =
     (m : MemberFields) (base : ℕ) (seat : SeatFields) (r : ReceiptFields)

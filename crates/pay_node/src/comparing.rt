@@ -1,26 +1,40 @@
-ghost use Rattle.std.specs.Prelude.{◌≡◌, ◌≢◌, ◌+◌, ◌≤◌, IfOk, None, Some, replicate, slice_get};
-ghost use Rattle.std.specs.Prelude.{slice_set};
-ghost use Rattle.pay_node.specs.Comparing.{count_beyond, count_within, is_beyond, is_within};
-ghost use Rattle.pay_node.specs.Comparing.{standing_of};
+//! The rollback check of a member that starts again: what its peers claim to have of it, and what
+//! follows.
 
-use crate::standing::Standing;
+ghost use Rattle.std.specs.Prelude.{◌≡◌, ◌+◌, ◌≤◌, IfOk, None, replicate, false};
+ghost use Rattle.pay_node.specs.Comparing.{count_beyond, count_within, is_beyond, is_of_now};
+ghost use Rattle.pay_node.specs.Comparing.{is_within, standing_of, with_claim, IsClaimedOf};
+ghost use Rattle.pay_node.specs.Comparing.{IsComparingOf};
+
+use crate::locked_member::Beginning;
 use std::alloc::{AllocError, Global};
-use std::marker::Model;
+use std::marker::{Model, PhantomData};
 
-// A node that goes on from its log compares before it pays. f liars can't play this. A member that
-// forgot is itself one of the f. If a value of its own was delivered anywhere, a quorum of ECHOs
-// stands for it, and a quorum that says "no further" meets that one in more than f members: itself,
-// at most f - 1 other liars, so a correct one, which took the SEND and says "beyond". Of f + 1 that
-// say "beyond" one is correct, which a member that remembers never meets. Who plays back peers'
-// WANTs of before can hold a member up, or free one that forgot: that one is then stopped by its
-// own list alone.
-/// How far each peer had got in what a member sent, by its first WANT since the member began.
+/// The right of a member to submit values, according to what its peers claim.
+#[derive(Clone, Copy, Debug, PartialEq, Eq)]
+pub enum Standing {
+    /// Too few peers have claimed how many of its bodies they have.
+    Waiting,
+    /// A quorum knows no more than the member does.
+    Free,
+    /// More peers than may be faulty know more than the member does.
+    Forgotten,
+}
+
+// A node that continues from its log makes the rollback check before it pays. f faulty members
+// can't mislead it. A member that lost state is itself one of the f. If a value of its own was
+// delivered anywhere, a quorum of ECHOs stands for it. A quorum that says "no further" shares more
+// than f members with that quorum. These are the member itself, at most f - 1 other faulty ones,
+// and so a correct one, which accepted the SEND and says "beyond". Of f + 1 that say "beyond" one
+// is correct, and a member that kept its state never gets that answer from a correct one.
+/// How many of a member's bodies each peer has, according to its latest claim since the member
+/// began.
 #[derive(Drop)]
 pub struct Comparing {
     members: u16,
     faults: u16,
     sent: u64,
-    firsts: Vec<Option<u64>>,
+    claims: Vec<Option<u64>>,
 }
 
 impl Model for Comparing {
@@ -33,99 +47,159 @@ impl Model for Comparing {
       members = c.members;
       faults = c.faults;
       sent = c.sent;
-      firsts = c.firsts.items;
+      claims = c.claims.items;
     } };
 
-    ghost invariant = { λ c. length c.firsts.items ≡ c.members };
+    ghost invariant = { λ c. length c.claims.items ≡ c.members };
 }
 
 impl Comparing {
-    /// No peer has shown anything. The member began with so many bodies that it had sent.
+    /// Creates a check without claims. The member began with `sent` bodies that it had sent.
     pub fn new(alloc: Global, members: u16, faults: u16, sent: u64) -> Result<Comparing, AllocError>
         ensures { IfOk result (λ c. c ≡ record {
           members = members;
           faults = faults;
           sent = sent;
-          firsts = replicate members None;
+          claims = replicate members None;
         }) }
     {
-        let firsts = vec![in alloc; None; usize::from(members)]?;
+        let claims = vec![in alloc; None; usize::from(members)]?;
         Ok(Comparing {
             members,
             faults,
             sent,
-            firsts,
+            claims,
         })
     }
 
-    /// A WANT of a peer for this number came. What counts is its first one.
+    /// Notes that `peer` claims to have accepted `claim` bodies, when `now` bodies are sent. A
+    /// claim that may count bodies sent since the member began says nothing. Any other claim
+    /// replaces the peer's earlier one.
     // promise: comparing
-    pub fn note(&mut self, peer: u16, number: u64)
-        ensures first { slice_get self.old.firsts peer ≡ Some None → self.new
-            ≡ record self.old { firsts = slice_set self.old.firsts peer (Some number) } }
-        ensures later { slice_get self.old.firsts peer ≢ Some None → self.new ≡ self.old }
+    pub fn note(&mut self, peer: u16, claim: u64, now: u64)
+        ensures { self.new ≡ with_claim self.old peer claim now }
     {
         let place = usize::from(peer);
-        if let Some(None) = self.firsts.get(place) {
-            self.firsts[place] = Some(number);
+        if is_of_now(self.sent, now, claim) || place >= self.claims.len() {
+            return;
         }
+        self.claims[place] = Some(claim);
     }
 
-    /// Whether the member may be asked for values by now.
+    /// Returns whether the member may submit values now.
     // promise: comparing
     pub fn standing(&self) -> Standing
         ensures { result ≡ standing_of self.now }
     {
         let (members, faults) = (usize::from(self.members), usize::from(self.faults));
-        if self.beyond() > faults {
+        if self.count_beyond() > faults {
             Standing::Forgotten
-        } else if 2 * self.within() > members + faults {
+        } else if 2 * self.count_within() > members + faults {
             Standing::Free
         } else {
             Standing::Waiting
         }
     }
 
-    // How many peers had taken more than the member began with.
-    fn beyond(&self) -> usize
+    // Returns how many peers had accepted more bodies than the member began with.
+    fn count_beyond(&self) -> usize
         ensures { result ≡ count_beyond self.now }
     {
         let sent = self.sent;
-        self.firsts
+        self.claims
             .iter()
-            .filter(|first| is_beyond(sent, **first))
+            .filter(|claim| is_beyond(sent, **claim))
             .count()
     }
 
-    // How many members are known to have taken no more, itself among them.
-    fn within(&self) -> usize
+    // Returns how many members are known to have accepted no more, including this member.
+    fn count_within(&self) -> usize
         ensures count { result ≡ count_within self.now }
         ensures few { result ≤ self.now.members + 1 }
     {
         let sent = self.sent;
         let peers = self
-            .firsts
+            .claims
             .iter()
-            .filter(|first| is_within(sent, **first))
+            .filter(|claim| is_within(sent, **claim))
             .count();
         peers + 1
     }
 }
 
-fn is_beyond(sent: u64, first: Option<u64>) -> bool
-    ensures { result ≡ is_beyond sent first }
+// Returns whether a claim may count bodies that were sent since the member began.
+fn is_of_now(sent: u64, now: u64, claim: u64) -> bool
+    ensures { result ≡ is_of_now sent now claim }
 {
-    match first {
-        Some(number) => number > sent,
+    sent < claim && claim <= now
+}
+
+fn is_beyond(sent: u64, claim: Option<u64>) -> bool
+    ensures { result ≡ is_beyond sent claim }
+{
+    match claim {
+        Some(claim) => claim > sent,
         None => false,
     }
 }
 
-fn is_within(sent: u64, first: Option<u64>) -> bool
-    ensures { result ≡ is_within sent first }
+fn is_within(sent: u64, claim: Option<u64>) -> bool
+    ensures { result ≡ is_within sent claim }
 {
-    match first {
-        Some(number) => number <= sent,
+    match claim {
+        Some(claim) => claim <= sent,
         None => false,
+    }
+}
+
+/// What a node's peers have claimed about the member that it began with. It has a lock of its own.
+#[derive(Drop)]
+pub(crate) struct Compared<S: Beginning> {
+    comparing: Comparing,
+    // whether the member was free: it stays so, unless it is found to have lost state
+    was_free: bool,
+    of: PhantomData<S>,
+}
+
+impl<S: Beginning> Model for Compared<S> {
+    ghost use Rattle.std.specs.Prelude.{◌≡◌, true};
+    ghost use Rattle.pay_node.specs.Comparing.{ComparingFields, IsClaimedOf, IsComparingOf};
+    ghost use Rattle.pay_node.specs.declared.comparing.Standing.TheVariants.{Free};
+
+    ghost Value = { ComparingFields };
+
+    ghost view = { λ c. c.comparing };
+
+    ghost invariant = { λ c. IsComparingOf S.beginning c.comparing
+        × (c.was_free ≡ true → IsClaimedOf S.beginning Free) };
+}
+
+impl<S: Beginning> Compared<S> {
+    pub(crate) fn new(comparing: Comparing) -> Compared<S>
+        requires { IsComparingOf S.beginning comparing }
+    {
+        Compared {
+            comparing,
+            was_free: false,
+            of: PhantomData,
+        }
+    }
+
+    /// Notes a claim of `peer`, when `now` bodies are sent: see [`Comparing::note`].
+    pub(crate) fn note(&mut self, peer: u16, claim: u64, now: u64) {
+        self.comparing.note(peer, claim, now);
+        if self.comparing.standing() == Standing::Free {
+            self.was_free = true;
+        }
+    }
+
+    /// Returns whether the member may submit values now.
+    pub(crate) fn standing(&self) -> Standing
+        ensures { IsClaimedOf S.beginning result }
+    {
+        match self.comparing.standing() {
+            Standing::Waiting if self.was_free => Standing::Free,
+            standing => standing,
+        }
     }
 }

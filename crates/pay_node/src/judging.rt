@@ -1,28 +1,59 @@
-//! Whether a history is consistent with what a seat was told.
+//! Tests of whether a history is consistent with a seat's receipts.
 
-ghost use Rattle.std.specs.Prelude.{◌≡◌, ◌↔◌, ◌≤◌, ◌==◌, [], ◌∷◌, drop, length, slice_get};
-ghost use Rattle.std.specs.Prelude.{IfOk, IfSome, IsTrue};
+ghost use Rattle.std.specs.Prelude.{◌≡◌, ◌↔◌, IsTrue, ◌≤◌, ◌==◌, [], ◌∷◌, drop, length, slice_get};
+ghost use Rattle.std.specs.Prelude.{IfOk, IfSome};
 ghost use Rattle.std.specs.List.{All, AllPairs, count_by};
-ghost use Rattle.pay_node.specs.Judging.{AreConsistent, EachConsistent, IsNextConsistent};
 ghost use Rattle.pay_member.specs.Questions.{Shows};
 ghost use Rattle.pay_member.specs.Replay.{member_replayed};
-ghost use Rattle.pay_member.specs.declared.reading.Reading.TheVariants as reading;
+ghost use Rattle.pay_node.specs.Judging.{AreConsistent, EachConsistent, IsNextConsistent};
 ghost use Rattle.pay_node.specs.Receipts.{IsConsistent, entries_after, has_entry};
 ghost use Rattle.pay_node.specs.Seats.{HasItsEntries, Right};
+ghost use Rattle.pay_member.specs.declared.reading.Reading.TheVariants as reading;
 
-use crate::call::Call;
-use crate::own_member::{OwnMember, OwnReplay};
-use crate::receipt::{KeptCall, Receipt};
-use crate::replaying::replay_to;
-use crate::same::{is_same_event, is_taken};
+use crate::closing::replay_to;
+use crate::locked_member::{OwnMember, OwnReplay};
+use crate::receipt::{Call, KeptCall, Receipt};
 use crate::seat::Seat;
 use pay_frame::Body;
 use pay_link::Checked;
 use pay_member::{Event, HistoryEntry, Replay, Reply, is_same_body};
 use std::alloc::{AllocError, Global};
 
-/// Whether a member's history is consistent with all that a seat was told, from a base on. It is
-/// replayed where nobody knows yet that it is consistent with each receipt.
+pub(crate) fn is_same_event(a: &Event, b: &Event) -> bool
+    ensures { IsTrue result ↔ (a.now ≡ b.now) }
+{
+    match (a, b) {
+        (Event::Ask(a), Event::Ask(b)) => a.as_slice() == b.as_slice(),
+        (Event::Taken(a), Event::Taken(b)) => is_same_frame(a, b),
+        (Event::Query(a), Event::Query(b)) => a == b,
+        (Event::Ask(_), Event::Taken(_) | Event::Query(_))
+        | (Event::Taken(_), Event::Ask(_) | Event::Query(_))
+        | (Event::Query(_), Event::Ask(_) | Event::Taken(_)) => false,
+    }
+}
+
+/// Returns whether `event` is that `frame` was accepted.
+pub(crate) fn is_taken(event: &Event, frame: &Checked) -> bool
+    ensures { IsTrue result ↔ (event.now ≡ Event.Taken frame.now) }
+{
+    match event {
+        Event::Taken(taken) => is_same_frame(taken, frame),
+        Event::Ask(_) | Event::Query(_) => false,
+    }
+}
+
+fn is_same_frame(a: &Checked, b: &Checked) -> bool
+    ensures { IsTrue result ↔ (a.now ≡ b.now) }
+{
+    a.from() == b.from()
+        && a.to() == b.to()
+        && a.number() == b.number()
+        && is_same_body(a.body(), b.body())
+        && a.key() == b.key()
+}
+
+/// Returns whether a member's history is consistent with all receipts of `seat`, from `base` on. It
+/// is replayed if it isn't known yet that it is consistent with each receipt.
 pub(crate) fn is_right(
     alloc: Global,
     member: &OwnMember,
@@ -47,8 +78,8 @@ pub(crate) fn is_right(
     are_consistent(alloc, &mut replay, stamp, receipts)
 }
 
-/// Whether a history has as many entries under a seat's stamp, from a base on, as the seat was told
-/// of.
+/// Returns whether a history has as many entries with the stamp of `seat`, from `base` on, as the
+/// seat's receipts tell.
 pub(crate) fn has_its_entries(member: &OwnMember, base: usize, seat: &Seat) -> bool
     requires { base ≤ length member.now.history }
     ensures { IsTrue result ↔ HasItsEntries member.now base seat.now }
@@ -57,7 +88,7 @@ pub(crate) fn has_its_entries(member: &OwnMember, base: usize, seat: &Seat) -> b
     entries_under(since, seat.stamp()) == entries_told(seat.receipts())
 }
 
-/// The entries of a history from a base on.
+/// Returns the entries of `history` from `base` on.
 pub(crate) fn entries_since(history: &[HistoryEntry], base: usize) -> &[HistoryEntry]
     requires { base ≤ length history.now }
     ensures { result.now ≡ drop base history.now }
@@ -65,7 +96,7 @@ pub(crate) fn entries_since(history: &[HistoryEntry], base: usize) -> &[HistoryE
     &history[base..]
 }
 
-/// How many entries have a stamp.
+/// Returns how many entries have `stamp`.
 pub(crate) fn entries_under(history: &[HistoryEntry], stamp: u16) -> usize
     ensures { result ≡ count_by (λ e. e.stamp == stamp) history.now }
 {
@@ -78,7 +109,7 @@ pub(crate) fn entries_under(history: &[HistoryEntry], stamp: u16) -> usize
     count
 }
 
-// How many receipts are of calls that have an entry.
+// Returns how many receipts are of calls with an entry.
 fn entries_told(receipts: &[Receipt]) -> usize
     ensures { result ≡ count_by (λ r. has_entry r.call) receipts.now }
 {
@@ -91,8 +122,9 @@ fn entries_told(receipts: &[Receipt]) -> usize
     count
 }
 
-// Whether none saw less than there was once the one before it was answered, and the first no less
-// than a base. Where it says no, nothing is known.
+// Returns `true` only if `receipts` are in order: no receipt saw fewer entries than there were
+// after the one before it, and the first saw no fewer than `base`. If it returns `false`, nothing
+// is known.
 fn are_in_order(base: usize, receipts: &[Receipt]) -> bool
     ensures since { IsTrue result → All (λ r. base ≤ r.seen) receipts.now }
     ensures ordered { IsTrue result
@@ -100,7 +132,7 @@ fn are_in_order(base: usize, receipts: &[Receipt]) -> bool
 {
     let mut least = base;
     for receipt in receipts {
-        let Some(after) = after(receipt) else {
+        let Some(after) = entries_after(receipt) else {
             return false;
         };
         if receipt.history_len() < least {
@@ -111,8 +143,8 @@ fn are_in_order(base: usize, receipts: &[Receipt]) -> bool
     true
 }
 
-// How many entries the history had once a call was answered, where a number says it.
-fn after(receipt: &Receipt) -> Option<usize>
+// Returns how many entries the history had after a call was answered, if a number can say it.
+fn entries_after(receipt: &Receipt) -> Option<usize>
     ensures { IfSome result (λ count. count ≡ entries_after receipt.now) }
 {
     if receipt.has_entry() {
@@ -122,8 +154,9 @@ fn after(receipt: &Receipt) -> Option<usize>
     }
 }
 
-// Whether a history is consistent with receipts, one after the other, and none saw less than there
-// was before it, nor the first less than was taken of it. It is taken on to the end of each.
+// Returns whether a history is consistent with `receipts`, one after the other, and whether they
+// are in order. In order, no receipt saw fewer entries than there were before it, and the first no
+// fewer than were replayed. The history is replayed up to the end of each call.
 fn are_consistent(
     alloc: Global,
     replay: &mut OwnReplay<'_>,
@@ -141,8 +174,8 @@ fn are_consistent(
     Ok(true)
 }
 
-// Whether a history is consistent with a receipt, and it saw no less than was taken. If so, it is
-// taken on to the call's end.
+// Returns whether a history is consistent with `receipt`, and the receipt saw no fewer entries than
+// were replayed. If so, the history is replayed up to the call's end.
 fn is_next_consistent(
     alloc: Global,
     replay: &mut OwnReplay<'_>,
@@ -168,7 +201,8 @@ fn is_next_consistent(
     Ok(true)
 }
 
-/// Whether a history is consistent with a receipt that saw as many entries as were taken.
+/// Returns whether a history is consistent with `receipt`, which saw as many entries as were
+/// replayed.
 pub(crate) fn is_consistent_here(
     alloc: Global,
     replay: &OwnReplay<'_>,
@@ -190,7 +224,7 @@ pub(crate) fn is_consistent_here(
     }
 }
 
-// The same, of a call.
+// Returns whether a history is consistent with `call`, which saw as many entries as were replayed.
 fn is_call_consistent(
     alloc: Global,
     replay: &OwnReplay<'_>,
@@ -217,7 +251,7 @@ fn is_call_consistent(
     }
 }
 
-// Whether the entry of a frame that was taken stands at a place.
+// Returns whether the entry of an accepted frame stands at `place`.
 fn has_taken_at(
     history: &[HistoryEntry],
     place: usize,
@@ -236,7 +270,7 @@ fn has_taken_at(
     }
 }
 
-// Whether a member had sent a body at a place of all.
+// Returns whether a member had sent `body` at a place of all that it sent.
 fn has_sent(replay: &OwnReplay<'_>, number: usize, body: &Body) -> bool
     ensures { IsTrue result
         ↔ Shows (member_replayed replay.now) (reading.Sent number 1 (body.now ∷ [])) }
@@ -248,7 +282,7 @@ fn has_sent(replay: &OwnReplay<'_>, number: usize, body: &Body) -> bool
     }
 }
 
-// Whether an entry stands at a place.
+// Returns whether an entry stands at `place`.
 fn has_entry_at(
     history: &[HistoryEntry],
     place: usize,

@@ -1,7 +1,7 @@
 //! A running node: one member under a lock, and the seats from which threads call it.
 //!
-//! Each call from a [`Seat`] has a receipt of its answer there. Once all threads have ended, the
-//! receipts are held against the member's history: it is one that a single thread could have made,
+//! Each call from a [`Seat`] has a receipt of its answer there. After all threads have ended, the
+//! receipts are compared with the member's history: it is one that a single thread could have made,
 //! with these very calls.
 //!
 //! ```
@@ -11,41 +11,18 @@
 //! ```
 #![tactic(auto)]
 
-mod beginning;
-mod call;
-mod close_fault;
 mod closing;
-mod compared;
 mod comparing;
-mod fetch_seat;
-mod gate;
-mod gatherer;
-mod hand_in_fault;
 mod judging;
 pub mod laws;
 mod locked_member;
-mod marks;
 mod node;
-mod once;
-mod own_member;
 mod receipt;
-mod replaying;
-mod same;
 mod seat;
-mod standing;
-mod stopped;
 
-pub use beginning::Beginning;
-pub use call::Call;
-pub use close_fault::CloseFault;
-pub use comparing::Comparing;
-pub use fetch_seat::FetchSeat;
-pub use gate::{Gate, OpenGate};
-pub use gatherer::Gatherer;
-pub use hand_in_fault::HandInFault;
-pub use node::{MOST_SEATS, Node};
-pub use own_member::OwnMember;
-pub use receipt::Receipt;
-pub use seat::Seat;
-pub use standing::Standing;
-pub use stopped::Stopped;
+pub use closing::{CloseFault, Stopped};
+pub use comparing::{Comparing, Standing};
+pub use locked_member::{Beginning, OwnMember};
+pub use node::{Gate, Gatherer, HandInFault, MOST_SEATS, Node, OpenGate, OwnAnswer};
+pub use receipt::{Call, Receipt};
+pub use seat::{FetchSeat, Seat};

@@ -1,26 +1,53 @@
-ghost use Rattle.std.specs.Prelude.{◌≡◌, ◌+◌, ◌<◌, ◌^◌, IfOk, length};
-ghost use Rattle.pay_member.specs.declared.event.Event.TheVariants.{Query, Taken};
+//! The member under a node's lock. Its history continues from the node's beginning.
+
+ghost use Rattle.std.specs.Prelude.{[], ◌≡◌, ◌≢◌, ◌+◌, ◌<◌, ◌^◌, Err, IfOk, length};
 ghost use Rattle.pay_member.specs.Answer.{answer_of_ask, answer_of_take, answer_of_query};
 ghost use Rattle.pay_member.specs.Legal.{Legal};
+ghost use Rattle.pay_member.specs.Member.{MemberFields};
+ghost use Rattle.pay_member.specs.declared.event.Event.TheVariants.{Query, Taken};
+ghost use Rattle.pay_member.specs.declared.fault.AskFault.TheVariants.{Memory};
 ghost use Rattle.pay_node.specs.Comparing.{IsAskedAs};
 ghost use Rattle.pay_node.specs.Nodes.{WentOn};
 ghost use Rattle.pay_node.specs.Seats.{IsHandedIn};
 
-use crate::beginning::Beginning;
-use crate::hand_in_fault::HandInFault;
-use crate::own_member::OwnMember;
+use crate::comparing::Standing;
+use crate::node::HandInFault;
 use crate::seat::{Seat, keep};
-use crate::standing::Standing;
 use pay_channel::laws::taken_in_order;
+use pay_echo::MaskInstance;
 use pay_frame::Bytes;
 use pay_link::Checked;
+use pay_member::question::OwnForgetting;
 use pay_member::{
-    AskFault, AskedValue, Event, MemberFault, QueryFault, Reply, TakeFault, Told, Took,
+    AskFault, AskedValue, Event, Member, MemberFault, QueryFault, Replay, Reply, TakeFault, Told,
+    Took,
 };
+use pay_pending::WaitingBook;
 use std::alloc::Global;
-use std::marker::{Model, PhantomData};
+use std::marker::{Brand, Model, PhantomData};
 
-/// What lies under a node's lock: the member that the node began with, as it went on.
+/// The member of a node, of the one kind that runs.
+pub type OwnMember = Member<MaskInstance, WaitingBook>;
+
+/// The replay of the history of a node's member.
+pub(crate) type OwnReplay<'a> = Replay<'a, MaskInstance, WaitingBook>;
+
+/// The member that a node begins with. The caller that starts a node picks it, so that types can
+/// name it: the member under the node's lock continues from that member.
+pub trait Beginning {
+    ghost beginning: { MemberFields };
+}
+
+/// The member is picked when a node is started.
+impl Beginning for Brand {
+    ghost beginning = { record {
+      genesis = record { members = 0; faults = 0; opening = [] };
+      keys = record { own = 0; keys = [] };
+      history = [];
+    } };
+}
+
+/// The member under a node's lock, which continues from the member that the node began with.
 #[derive(Drop)]
 pub(crate) struct LockedMember<S: Beginning> {
     member: OwnMember,
@@ -42,7 +69,7 @@ impl<S: Beginning> Model for LockedMember<S> {
 }
 
 impl<S: Beginning> LockedMember<S> {
-    /// The member as the node begins with it.
+    /// Creates the member under the lock from `member`, which the node begins with.
     pub(crate) fn new(member: OwnMember) -> LockedMember<S>
         requires { member ≡ S.beginning }
         ensures { result ≡ member }
@@ -69,15 +96,15 @@ impl<S: Beginning> LockedMember<S> {
         self.member
     }
 
-    /// How many entries it began with.
+    /// Returns how many entries the member began with.
     pub(crate) fn base(&self) -> usize
         ensures { result ≡ length S.beginning.history }
     {
         self.base
     }
 
-    /// Hands a frame to the member from a seat, which keeps the receipt of the answer with a copy
-    /// of the frame.
+    /// Hands a frame to the member from `seat`, which keeps the receipt of the answer with `copy`,
+    /// a copy of the frame.
     // promise: receipts
     pub(crate) fn take(
         &mut self,
@@ -92,14 +119,13 @@ impl<S: Beginning> LockedMember<S> {
             self.new seat.new }
         ensures next { IfOk result (λ _. checked.frame.number + 1 < 2 ^ 64) }
     {
-        // a law that the proof stands on: the call does nothing
+        // for the proof, a law: the call does nothing
         taken_in_order();
         let seen = self.member.history().len();
         let room = seat.take_room(alloc)?;
         seat.receipts.reserve(1)?;
         let answer = self.member.take(alloc, seat.stamp(), checked);
-        // as many frames came from one member as there are entries at most, and these can be
-        // counted
+        // there are at most as many frames from one member as entries, and entries can be counted
         let entries = self.member.history().len();
         prove!(entries < usize::MAX);
         let kept = answer_of_take(answer);
@@ -107,7 +133,7 @@ impl<S: Beginning> LockedMember<S> {
         answer
     }
 
-    /// Asks the member for the state of an account from a seat, which keeps the receipt.
+    /// Queries the member for the state of `account` from `seat`, which keeps the receipt.
     // promise: receipts
     pub(crate) fn query(
         &mut self,
@@ -128,11 +154,12 @@ impl<S: Beginning> LockedMember<S> {
         answer
     }
 
-    // Whether a member has forgotten is read under the lock in which it is asked, so none is asked
-    // after it noticed, and before `Spent`: it doesn't know how many numbers it used. What peers
-    // show has a lock of its own, and `Comparing` says what comes of it.
-    /// Hands a value to the member from a seat, where what its peers show puts it so. One that has
-    /// forgotten, and one that isn't free, gets none.
+    // Lost state is tested under the lock of the call, so no value is accepted after the member
+    // noticed it. It is tested before `Spent`, since the member doesn't know how many numbers it
+    // used. What peers claim has a lock of its own, and `Comparing` says what follows from it.
+    /// Submits `value` to the member from `seat`, if the member has lost no state and `standing` is
+    /// free. Otherwise the value is dropped, and the seat keeps the reading that says whether the
+    /// member has lost state.
     // promise: receipts; comparing
     pub(crate) fn ask(
         &mut self,
@@ -145,15 +172,20 @@ impl<S: Beginning> LockedMember<S> {
         requires copy { copy ≡ value }
         ensures own { WentOn S.beginning self.old }
         ensures legal { Legal self.old.genesis self.old.keys self.old.history }
-        ensures asked { IsAskedAs self.old standing seat.old seat.new self.new value result }
+        ensures asked { result ≢ Err (HandInFault.Ask Memory)
+            → IsAskedAs self.old standing seat.old seat.new self.new value result }
+        ensures memory { result ≡ Err (HandInFault.Ask Memory) → seat.new ≡ seat.old }
     {
-        let seen = self.member.history().len();
-        if self.member.has_forgotten() || standing == Standing::Forgotten {
+        let forgot = self.member.view().has_forgotten();
+        if forgot || standing == Standing::Forgotten {
+            seat.note(alloc, &self.member, OwnForgetting, &forgot)?;
             return Err(HandInFault::Forgotten);
         }
         if standing == Standing::Waiting {
+            seat.note(alloc, &self.member, OwnForgetting, &forgot)?;
             return Err(HandInFault::TooEarly);
         }
+        let seen = self.member.history().len();
         let room = seat.take_room(alloc)?;
         seat.receipts.reserve(1)?;
         let answer = self.member.ask(alloc, seat.stamp(), value);
@@ -163,7 +195,7 @@ impl<S: Beginning> LockedMember<S> {
     }
 }
 
-// What a receipt keeps of each kind of answer.
+// Returns what a receipt keeps of an answer.
 fn answer_of_take(answer: Result<Took, TakeFault>) -> Result<Reply, MemberFault>
     ensures { result ≡ answer_of_take answer }
 {

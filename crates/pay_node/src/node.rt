@@ -1,75 +1,149 @@
-ghost use Rattle.std.specs.Prelude.{◌≡◌, ◌≢◌, ◌+◌, ◌<◌, ◌≤◌, ◌^◌, Ok, Err, IfOk, IfErr, IfSome};
-ghost use Rattle.std.specs.Prelude.{IsTrue, OnErr, OnOk, false, is_some, length, true};
-ghost use Rattle.pay_frame.specs.declared.limits.TheConstants.{MOST_MEMBERS};
+//! A running node: a member under a lock, called from seats.
+
+ghost use Rattle.std.specs.Prelude.{OnOk, ◌≡◌, ◌≢◌, ◌+◌, ◌<◌, ◌≤◌, ◌^◌, Ok, Err, IfOk, IfErr};
+ghost use Rattle.std.specs.Prelude.{IfSome, IsTrue, OnErr, Result, false, is_some, length, true, ⊤};
+ghost use Rattle.std.specs.declared.alloc.AllocError.{AllocError};
+ghost use Rattle.std.specs.Result.{result_ok};
 ghost use Rattle.pay_frame.specs.Frame.{FrameFields};
 ghost use Rattle.pay_frame.specs.Lent.{fields_of};
 ghost use Rattle.pay_frame.specs.OneFrame.{IsOneFrame};
+ghost use Rattle.pay_frame.specs.declared.limits.TheConstants.{MOST_MEMBERS};
 ghost use Rattle.pay_link.specs.Keys.{IsPeer};
-ghost use Rattle.pay_member.specs.declared.ask_fault.AskFault.TheVariants.{Memory};
-ghost use Rattle.pay_member.specs.declared.event.Event.TheVariants.{Query, Taken};
-ghost use Rattle.pay_member.specs.declared.reading.Reading.TheVariants as reading;
-ghost use Rattle.std.specs.Result.{result_ok};
 ghost use Rattle.pay_member.specs.Answer.{answer_of_take, answer_of_query};
 ghost use Rattle.pay_member.specs.Legal.{Legal};
+ghost use Rattle.pay_member.specs.Member.{MemberFields};
+ghost use Rattle.pay_member.specs.declared.event.Event.TheVariants.{Query, Taken};
+ghost use Rattle.pay_member.specs.declared.fault.AskFault.TheVariants.{Memory};
 ghost use Rattle.pay_node.specs.Closing.{AllReconciled, IsCloseFault};
-ghost use Rattle.pay_node.specs.Comparing.{FindsAll, FindsForgetting, HasAsked};
-ghost use Rattle.pay_node.specs.Comparing.{HasStanding, IsComparingOf};
+ghost use Rattle.pay_node.specs.Comparing.{HasAsked, HasStanding, IsAnsweredOfOwn};
+ghost use Rattle.pay_node.specs.Comparing.{IsComparingOf};
 ghost use Rattle.pay_node.specs.Gathering.{IsGathered};
 ghost use Rattle.pay_node.specs.Keeping.{HasFetched};
+ghost use Rattle.pay_node.specs.Nodes.{AreFresh, FindsLie, HasEntries, HasNext, IsAccused};
+ghost use Rattle.pay_node.specs.Nodes.{IsAnswered};
+ghost use Rattle.pay_node.specs.Nodes.{IsBrought};
+ghost use Rattle.pay_node.specs.Nodes.{IsMessage, IsOwn, node_as, IsReceived, IsShown, IsTaken};
+ghost use Rattle.pay_node.specs.Nodes.{base_of, next_of, node_with, outcome_of_take};
 ghost use Rattle.pay_node.specs.Sending.{HasSent};
-ghost use Rattle.pay_node.specs.Nodes.{AreFresh, FindsLie, HasNext, IsAnswered, IsBrought};
-ghost use Rattle.pay_node.specs.Nodes.{IsMessage, IsOwn, node_as};
-ghost use Rattle.pay_node.specs.Nodes.{IsReceived, IsShown, IsTaken, base_of, next_of, node_with};
-ghost use Rattle.pay_node.specs.Nodes.{outcome_of_take};
+ghost use Rattle.pay_member.specs.declared.reading.Reading.TheVariants as reading;
 
-use crate::beginning::Beginning;
-use crate::close_fault::CloseFault;
-use crate::compared::Compared;
-use crate::comparing::Comparing;
-use crate::fetch_seat::FetchSeat;
-use crate::gate::Gate;
-use crate::gatherer::Gatherer;
-use crate::hand_in_fault::HandInFault;
-use crate::locked_member::LockedMember;
-use crate::own_member::OwnMember;
-use crate::seat::Seat;
-use crate::standing::Standing;
-use crate::stopped::Stopped;
+use crate::closing::{CloseFault, Stopped};
+use crate::comparing::{Compared, Comparing, Standing};
+use crate::locked_member::{Beginning, LockedMember, OwnMember};
+use crate::seat::{FetchSeat, Seat};
 use pay_book::Statement;
 use pay_channel::laws::one_event_more;
 use pay_frame::{Body, Bytes, FrameRef, Kind, SharedBody, read_one};
 use pay_hmac::Tagger;
 use pay_link::{Checked, Keys, LinkFault, Opened};
 use pay_member::laws::events_in_order;
-use pay_member::question::{AllFronts, SentFrom, StateOf, StatementOf};
+use pay_member::question::{AllFronts, LastLieOf, OwnForgetting, SentFrom, StateOf, StatementOf};
 use pay_member::{
-    AskedValue, Brought, Incoming, Lie, Outcome, PaymentState, QueryFault, Question, Received,
-    TakeFault, Told, Took, open_frame,
+    AskFault, AskedValue, Brought, Incoming, Lie, Outcome, PaymentState, QueryFault, Question,
+    Received, TakeFault, Told, Took, open_frame,
 };
 use std::alloc::{AllocError, Global};
 use std::marker::Model;
 use std::sync::atomic::{AtomicBool, AtomicU64, Ordering};
 use std::sync::{Condvar, Mutex, Wait};
+use thiserror::Error;
 
-/// How many seats a node has at most.
+/// The calls of a node around its lock when it receives a frame. A test holds a worker there.
+pub trait Gate {
+    /// Runs in the seat `stamp` after a frame was authenticated and before the lock is taken.
+    fn pass(&self, stamp: u16);
+
+    /// Runs in the seat `stamp` after the lock was released.
+    fn answered(&self, stamp: u16);
+}
+
+/// A gate that does nothing.
+#[derive(Clone, Copy, Debug)]
+pub struct OpenGate;
+
+impl Gate for OpenGate {
+    fn pass(&self, _stamp: u16) {}
+
+    fn answered(&self, _stamp: u16) {}
+}
+
+/// A gatherer from a node's member while it is locked, such as a log that wants the newest entries.
+pub trait Gatherer {
+    // Relates the gatherer before, the member that it was lent, the answer, and the gatherer
+    // afterwards.
+    ghost gathers: { Self → MemberFields → Result ⊤ AllocError → Self → Type 0 };
+
+    /// Gathers from `member`, while all callers of the node wait.
+    fn gather(&mut self, member: &OwnMember) -> Result<(), AllocError>
+        ensures { gathers self.old member.now result self.new };
+}
+
+/// The reason why a value isn't broadcast.
+#[derive(Clone, Copy, Debug, PartialEq, Eq, Error)]
+pub enum HandInFault {
+    /// Too few peers have shown yet that they know no more than the member does.
+    #[error("too early")]
+    TooEarly,
+    /// The member has lost state.
+    #[error("forgotten")]
+    Forgotten,
+    /// The member refused the value.
+    #[error("{0}")]
+    Ask(AskFault),
+}
+
+impl From<AskFault> for HandInFault {
+    ghost use Rattle.std.specs.Prelude.{◌≡◌};
+    ghost use Rattle.pay_node.specs.declared.node.HandInFault.TheVariants.{Ask};
+
+    ghost from_gives = { λ fault e. e ≡ Ask fault };
+
+    fn from(fault: AskFault) -> HandInFault {
+        HandInFault::Ask(fault)
+    }
+}
+
+impl From<AllocError> for HandInFault {
+    ghost use Rattle.std.specs.Prelude.{◌≡◌};
+    ghost use Rattle.pay_member.specs.declared.fault.AskFault.TheVariants.{Memory};
+    ghost use Rattle.pay_node.specs.declared.node.HandInFault.TheVariants.{Ask};
+
+    ghost from_gives = { λ _ e. e ≡ Ask Memory };
+
+    fn from(_error: AllocError) -> HandInFault {
+        HandInFault::Ask(AskFault::Memory)
+    }
+}
+
+/// The answer of a node to a question about its member's own account.
+#[derive(Drop)]
+pub enum OwnAnswer<A> {
+    /// The answer of a member that has lost no state.
+    Told(A),
+    /// The answer that isn't reported, since the member has lost state.
+    Withheld(A),
+}
+
+/// The greatest number of seats of a node.
 pub const MOST_SEATS: u16 = 256;
 
-/// One member that many threads call, each from a seat of its own.
+/// A member that many threads call, each from a seat of its own.
 ///
-/// A call locks the member for one event or one reading. Bytes are read, opened and answered
-/// outside of the lock, with a copy of the member's keys. All is answered by the member that the
-/// node began with, as it went on.
+/// A call locks the member for one event or one reading. Bytes are read, authenticated and answered
+/// outside of the lock, with a copy of the member's keys. All answers come from the member that the
+/// node began with, as it continued.
 #[derive(Drop)]
 pub struct Node<S: Beginning> {
     member: Mutex<LockedMember<S>>,
     changed: Condvar,
-    // how many bodies the member sent, as whoever had the lock last left it
+    // how many bodies the member sent, as the last holder of the lock left it
     sent: AtomicU64,
-    // what peers show of a member that goes on from its log
+    // what peers claim about a member that continues from its log
     compared: Option<Mutex<Compared<S>>>,
-    // whether it was found that the member has forgotten what it sent
+    // whether it was found that the member has lost state
     forgets: AtomicBool,
-    // a bit for all members of one number modulo 64, of which it was found that one lied
+    // a bit for all members of one number modulo 64: it is set if a protocol violation of one of
+    // them was found
     liars: AtomicU64,
     keys: Keys,
     seats: u16,
@@ -87,8 +161,8 @@ impl<S: Beginning> Model for Node<S> {
 }
 
 impl<S: Beginning> Node<S> {
-    /// A node of a member, which goes on from the history that it has, and the node's seats. Where
-    /// memory is refused, the member comes back.
+    /// Creates a node of `member`, which continues from the member's history, and the node's seats.
+    /// If memory runs out, the member is returned.
     // promise: locked member
     pub fn new(
         alloc: Global,
@@ -110,8 +184,8 @@ impl<S: Beginning> Node<S> {
         }
     }
 
-    /// The same, but the node takes no value to ask for before enough peers have shown that they
-    /// know no more of its member: see [`hear`](Node::hear).
+    /// Creates a node of `member` that accepts no value before enough peers have claimed that they
+    /// know no more about it: see [`note_claim`](Node::note_claim).
     pub fn comparing(
         alloc: Global,
         member: OwnMember,
@@ -137,7 +211,7 @@ impl<S: Beginning> Node<S> {
         }
     }
 
-    /// A node whose lock holds this member, with a copy of its keys.
+    /// Creates a node with this member under its lock and a copy of its keys.
     pub(crate) fn of_parts(
         locked: LockedMember<S>,
         keys: Keys,
@@ -160,18 +234,19 @@ impl<S: Beginning> Node<S> {
         }
     }
 
-    /// The keys with which the node opens frames.
+    /// Returns the keys that the node authenticates frames with.
     pub fn keys(&self) -> &Keys
         ensures { result.now ≡ self.now.keys }
     {
         &self.keys
     }
 
-    /// Reads and opens bytes, and hands the frame that they are to the member. A frame that opens
-    /// and is no WANT is answered with the WANT for what is next from its sender.
+    /// Reads and authenticates `bytes`, and hands the frame that they are to the member. If the
+    /// frame is authenticated and is no WANT, the answer has the WANT for what is next from its
+    /// sender.
     ///
-    /// Bytes that don't open, and a WANT, are answered at once, whatever memory there is: no lock
-    /// is taken, and no receipt is left.
+    /// Bytes that aren't authenticated, and a WANT, are answered at once, whatever memory there is.
+    /// No lock is taken for them, and no receipt is left.
     #[tactic(auto, using(crate::proofs::Taking::brought_frame, crate::proofs::Taking::brought_fault))]
     // promise: node's bytes
     pub fn bring<R: Wait, T: Tagger, G: Gate>(
@@ -198,11 +273,11 @@ impl<S: Beginning> Node<S> {
         Ok(received.with_want(tagger, self.keys(), from))
     }
 
-    // `Node::bring_frame` answers which number is next and seals no WANT. A reader that asks ahead
-    // seals those for which its window has room, and a tag that nobody sends costs a sixth of a
-    // frame.
-    /// The same of a frame that was read already, without the WANT: the answer has the number that
-    /// it would ask for.
+    // `Node::bring_frame` answers which number is next and encodes no WANT. A reader with several
+    // frames in flight encodes the WANTs that its window has room for. A tag that nobody sends
+    // would cost a sixth of a frame.
+    /// Does what `bring` does, for a `frame` that was read already, and without the WANT: the
+    /// answer has the number that the WANT would request.
     #[tactic(auto, using(crate::proofs::Taking::is_message, crate::proofs::Taking::is_want, crate::proofs::Taking::is_fault))]
     // promise: node's bytes
     pub fn bring_frame<R: Wait, T: Tagger, G: Gate>(
@@ -230,8 +305,8 @@ impl<S: Beginning> Node<S> {
         }
     }
 
-    /// Has the member broadcast a value of its own, if it remembers what it sent before and, in a
-    /// node that compares, enough peers know no more of it.
+    /// Has the member broadcast `value`, a value of its own. The member must have kept its state.
+    /// In a node with a rollback check, enough peers must know no more about it.
     // promise: node's answers; comparing (asked)
     pub fn ask<R: Wait>(
         &self,
@@ -251,14 +326,14 @@ impl<S: Beginning> Node<S> {
         let answer = locked.ask(alloc, seat, standing, value, copy);
         self.count_sent(&locked);
         drop(locked);
-        // what is asked for is sent
+        // a submitted value is sent
         if answer.is_ok() {
             self.changed.notify_all();
         }
         answer
     }
 
-    /// Has the member tell the state of an account, and note that it was asked for.
+    /// Returns the state of `account`, and has the member record the query.
     // promise: node's answers
     pub fn query<R: Wait>(
         &self,
@@ -275,7 +350,8 @@ impl<S: Beginning> Node<S> {
         self.member.lock(rt).query(alloc, seat, account)
     }
 
-    /// Asks the member a question. Where the seat's latest receipts say just that, none is left.
+    /// Returns the member's answer to `question`. If the seat's latest receipts say just that, no
+    /// receipt is left.
     // promise: node's answers
     pub fn read<R: Wait, Q: Question>(
         &self,
@@ -296,8 +372,39 @@ impl<S: Beginning> Node<S> {
         Ok(answer)
     }
 
-    /// Copies of the bodies that the member sent to all, from a place on: at most `max`, and at
-    /// most 16.
+    /// Asks the member `question` about its own account, and tells the answer if the member has
+    /// lost no state, by its own history and by what its peers claim.
+    // promise: node's answers; comparing
+    pub fn read_own<R: Wait, Q: Question>(
+        &self,
+        rt: &R,
+        alloc: Global,
+        seat: &mut Seat,
+        question: Q,
+    ) -> Result<OwnAnswer<Q::Answer>, AllocError>
+        ensures answered { IfOk result (IsAnsweredOfOwn self.now seat.old seat.new
+            (Q.reading question)) }
+        ensures err { OnErr result (seat.new ≡ seat.old) }
+    {
+        seat.make_room(alloc)?;
+        let standing = self.standing(rt);
+        let locked = self.member.lock(rt);
+        let member = locked.member();
+        let view = member.view();
+        let answer = question.ask(alloc, &view)?;
+        if view.has_forgotten() {
+            seat.note(alloc, member, OwnForgetting, &true)?;
+            return Ok(OwnAnswer::Withheld(answer));
+        }
+        seat.note(alloc, member, question, &answer)?;
+        if standing == Standing::Forgotten {
+            return Ok(OwnAnswer::Withheld(answer));
+        }
+        Ok(OwnAnswer::Told(answer))
+    }
+
+    /// Returns copies of the bodies that the member sent to all, from the place `from` on: at most
+    /// `max`, and at most 16.
     // promise: node's answers
     pub fn fetch<R: Wait>(
         &self,
@@ -315,11 +422,12 @@ impl<S: Beginning> Node<S> {
         Ok(bodies.into_vec())
     }
 
-    /// The body that the member sent at a place of all, once it is there, or none once told to stop
-    /// before. However often it is fetched from a seat, one receipt is kept of it. The wait and the
-    /// fetch are in one hold of the node's lock; the seat is locked once the wait is over.
+    /// Returns the body that the member sent at the place `number` of all, as soon as it is there.
+    /// Returns `None` if `stop` is set before. However often the body is fetched from a seat, one
+    /// receipt of it is kept. The wait and the fetch are under one hold of the node's lock, and the
+    /// seat is locked after the wait.
     ///
-    /// How long it waits no clause can say, for none names the flag; it is tested.
+    /// No clause says how long it waits, for none names the flag. It is tested.
     // promise: fetched bodies; answered WANTs
     pub fn fetch_when_sent<R: Wait>(
         &self,
@@ -341,7 +449,7 @@ impl<S: Beginning> Node<S> {
         seat.note_once(alloc, locked.member(), number as usize)
     }
 
-    /// How far the payment under a number of an account has come.
+    /// Returns how far the payment of `owner` with the number `seq` has come.
     // promise: node's answers
     pub fn state<R: Wait>(
         &self,
@@ -359,7 +467,7 @@ impl<S: Beginning> Node<S> {
             .ok_or(QueryFault::NoAccount)
     }
 
-    /// The lines of an account's statement, and its balance.
+    /// Returns the lines of the statement of `account`, and its balance.
     // promise: node's answers
     pub fn statement<R: Wait>(
         &self,
@@ -376,7 +484,7 @@ impl<S: Beginning> Node<S> {
             .ok_or(QueryFault::NoAccount)
     }
 
-    /// How many entries are settled of each account.
+    /// Returns how many entries of each account are settled, and keeps the receipt at `seat`.
     // promise: node's answers
     pub fn fronts<R: Wait>(
         &self,
@@ -392,12 +500,11 @@ impl<S: Beginning> Node<S> {
         Ok(self.read(rt, alloc, seat, AllFronts)?.into_vec())
     }
 
-    /// Lends the member to a gatherer, with all that it took by now. No receipt is left. After
-    /// refused memory no more is known of the gatherer than what it keeps.
-    // promise: gatherers; log stays (keeps)
+    /// Lends the member to `gatherer`, with all events up to now, and returns the gatherer's
+    /// answer. No receipt is left.
+    // promise: gatherers; log stays
     pub fn lend<R: Wait, G: Gatherer>(&self, rt: &R, gatherer: &mut G) -> Result<(), AllocError>
-        ensures gathered { OnOk result (IsGathered G.gathers self.now gatherer.old gatherer.new) }
-        ensures keeps { G.keeps gatherer.old gatherer.new }
+        ensures { IsGathered G.gathers self.now gatherer.old result gatherer.new }
     {
         let locked = self.member.lock(rt);
         let member = locked.member();
@@ -406,21 +513,23 @@ impl<S: Beginning> Node<S> {
         gatherer.gather(member)
     }
 
-    /// Notes a WANT of a peer, which came for this number of all that the member sent. The first
-    /// one of each peer says how far that had got, for it asks from there on. No clause says what a
-    /// lock holds behind it; what is noted, [`Comparing`] says.
-    pub fn hear<R: Wait>(&self, rt: &R, peer: u16, number: u64) {
+    /// Notes that `peer` claims to have accepted `claim` of all bodies that the member sent. No
+    /// clause says what a lock protects. [`Comparing`] says what is noted.
+    pub fn note_claim<R: Wait>(&self, rt: &R, peer: u16, claim: u64) {
         if let Some(compared) = &self.compared {
+            let sent = self.member.lock(rt).member().sent_len();
             let mut compared = compared.lock(rt);
-            compared.note(peer, number);
+            compared.note(peer, claim, sent);
             if compared.standing() == Standing::Forgotten {
                 self.forgets.store(true, Ordering::SeqCst);
             }
         }
     }
 
-    // Whether the member may be asked for values, by what its peers show.
-    fn standing<R: Wait>(&self, rt: &R) -> Standing
+    /// Returns whether the member may submit values, and its peers be read, according to their
+    /// claims.
+    // promise: comparing
+    pub fn standing<R: Wait>(&self, rt: &R) -> Standing
         ensures { HasStanding self.now result }
     {
         match &self.compared {
@@ -429,22 +538,14 @@ impl<S: Beginning> Node<S> {
         }
     }
 
-    /// Whether the member has forgotten what it sent: by its own history, or by what its peers
-    /// show. It leaves no receipt.
-    // promise: comparing
-    pub fn has_forgotten<R: Wait>(&self, rt: &R) -> bool
-        ensures found { IsTrue result → FindsForgetting self.now }
-        ensures remembers { result ≡ false → FindsAll self.now }
+    /// Returns how many entries the member's history has. It leaves no receipt.
+    pub fn history_len<R: Wait>(&self, rt: &R) -> usize
+        ensures { HasEntries self.now result }
     {
-        let standing = self.standing(rt);
-        let locked = self.member.lock(rt);
-        let member = locked.member();
-        // for its clause alone: the history is legal
-        let _history = member.history();
-        member.has_forgotten() || standing == Standing::Forgotten
+        self.member.lock(rt).member().history().len()
     }
 
-    /// The number that the next frame from a peer has. It leaves no receipt.
+    /// Returns the number of the next frame from `peer`. It leaves no receipt.
     pub fn next<R: Wait>(&self, rt: &R, peer: u16) -> u64
         requires { IsPeer self.now.keys peer }
         ensures { HasNext self.now peer result }
@@ -456,7 +557,7 @@ impl<S: Beginning> Node<S> {
         member.next(peer)
     }
 
-    /// The lie that a peer told last to the member, if it told any: what no correct member says. It
+    /// Returns the last protocol violation that `peer` sent to the member, if there is one. It
     /// leaves no receipt.
     // promise: lies
     pub fn lie<R: Wait>(&self, rt: &R, peer: u16) -> Option<Lie>
@@ -467,16 +568,43 @@ impl<S: Beginning> Node<S> {
         let member = locked.member();
         // for their clauses alone: the history is legal, and the keys are those of the group
         let (_history, _keys) = (member.history(), member.keys());
-        member.lie(peer)
+        member.view().lie(peer)
     }
 
-    /// Whether a peer may have lied by now. It takes no lock and leaves no receipt. No clause says
-    /// so, for none names what an atomic holds; it is tested.
+    /// Returns the last lie of `peer`, if the member knows of one, and leaves a receipt of that. If
+    /// it knows of none, no receipt is left.
+    // promise: node's answers; lies
+    pub fn accuse<R: Wait>(
+        &self,
+        rt: &R,
+        alloc: Global,
+        seat: &mut Seat,
+        peer: u16,
+    ) -> Result<Option<Lie>, AllocError>
+        requires { IsPeer self.now.keys peer }
+        ensures accused { IfOk result (IsAccused self.now peer seat.old seat.new) }
+        ensures err { OnErr result (seat.new ≡ seat.old) }
+    {
+        let locked = self.member.lock(rt);
+        let member = locked.member();
+        // for their clauses alone: the history is legal, and the keys are those of the group
+        let (_history, _keys) = (member.history(), member.keys());
+        match member.view().lie(peer) {
+            None => Ok(None),
+            Some(lie) => {
+                seat.note(alloc, member, LastLieOf(peer), &Some(lie))?;
+                Ok(Some(lie))
+            }
+        }
+    }
+
+    /// Returns whether `peer` may have sent a protocol violation up to now. It takes no lock and
+    /// leaves no receipt. No clause says so, for none names what an atomic holds. It is tested.
     pub fn may_have_lied(&self, peer: u16) -> bool {
         self.liars.load(Ordering::SeqCst) & hint_of(peer) != 0
     }
 
-    // Notes that a peer lied, if it did, while the member is locked.
+    // Notes a protocol violation of `peer`, if there is one, while the member is locked.
     fn note_liar(&self, locked: &LockedMember<S>, peer: u16)
         requires { IsPeer self.now.keys peer }
     {
@@ -484,43 +612,44 @@ impl<S: Beginning> Node<S> {
         let member = locked.member();
         // for its clause alone: the keys are those of the group
         let _keys = member.keys();
-        if member.lie(peer).is_some() {
+        if member.view().lie(peer).is_some() {
             self.liars.store(liars | hint_of(peer), Ordering::SeqCst);
         }
     }
 
-    /// Whether it was found by now that the member has forgotten what it sent: by itself, or by
-    /// what its peers show. It takes no lock and leaves no receipt. No clause says so, for none
-    /// names what an atomic holds; it is tested.
+    /// Returns whether it was found that the member has lost state, by the member itself or from
+    /// its peers' claims. It takes no lock and leaves no receipt. No clause says so, for none names
+    /// what an atomic holds. It is tested.
     pub fn forgets(&self) -> bool {
         self.forgets.load(Ordering::SeqCst)
     }
 
-    // Only calls that sent something wake writers. They look at a length that no clause ties to the
-    // outbound list (`Node::sent_len`), since none names what an atomic holds: a wrong one delays
-    // frames.
-    /// How many bodies the member sent to all by now. It takes no lock and leaves no receipt. No
-    /// clause says so, for none names what an atomic holds; it is tested.
+    // Only calls that sent something wake writers. Writers look at a length that no clause ties to
+    // the outbound list (`Node::sent_len`), since no clause names what an atomic holds. A wrong
+    // length delays frames.
+    /// Returns how many bodies the member sent to all up to now. It takes no lock and leaves no
+    /// receipt. No clause says so, for none names what an atomic holds. It is tested.
     pub fn sent_len(&self) -> u64 {
         self.sent.load(Ordering::SeqCst)
     }
 
-    // Notes how many bodies the member sent, and whether it has forgotten some, while it is locked.
+    // Notes how many bodies the member sent, and whether it has lost state, while it is locked.
     fn count_sent(&self, locked: &LockedMember<S>) {
         let member = locked.member();
         self.sent.store(member.sent_len(), Ordering::SeqCst);
-        if member.has_forgotten() {
+        if member.view().has_forgotten() {
             self.forgets.store(true, Ordering::SeqCst);
         }
     }
 
-    // Whether a body at a place has still to be waited for.
+    // Returns whether the body at `place` isn't sent yet and a writer has to wait for it.
     fn has_to_wait(&self, locked: &LockedMember<S>, place: u64, stop: &AtomicBool) -> bool {
         locked.member().sent(place).is_none() && !stop.load(Ordering::SeqCst)
     }
 
-    /// Tells those to stop who wait for what the member has still to send: a writer then has no
-    /// answer. No clause can say so, for none names a flag or what a lock keeps; it is tested.
+    /// Sets `stop` and wakes the writers that wait for what the member has still to send. They then
+    /// have no answer. No clause says so, for none names a flag or what a lock protects. It is
+    /// tested.
     pub fn stop_waiting<R: Wait>(&self, rt: &R, stop: &AtomicBool) {
         let locked = self.member.lock(rt);
         stop.store(true, Ordering::SeqCst);
@@ -528,7 +657,7 @@ impl<S: Beginning> Node<S> {
         self.changed.notify_all();
     }
 
-    /// Takes the member out of the lock, once no thread calls the node any more.
+    /// Takes the member out of the lock, after the last call of the node.
     pub fn stop(self) -> Stopped<S>
         ensures node { result.node ≡ self }
         ensures legal { Legal result.member.genesis result.member.keys result.member.history }
@@ -544,7 +673,7 @@ impl<S: Beginning> Node<S> {
         }
     }
 
-    /// Stops the node and closes it: see [`Stopped::close`].
+    /// Stops the node and makes the shutdown check with all `seats`: see [`Stopped::close`].
     // promise: closing (own, own_back, closed, fault)
     pub fn close(self, alloc: Global, seats: &[Seat]) -> Result<OwnMember, (CloseFault, Stopped<S>)>
         ensures own { IfOk result (IsOwn self) }
@@ -557,7 +686,7 @@ impl<S: Beginning> Node<S> {
         self.stop().close(alloc, seats)
     }
 
-    // Hands a frame that opened to the member, between the gate's two calls, and answers which
+    // Hands an authenticated frame to the member, between the gate's two calls, and returns which
     // number is next from its sender.
     #[tactic(auto, using(crate::proofs::Taking::taken_so))]
     fn take<R: Wait, G: Gate>(
@@ -591,12 +720,13 @@ impl<S: Beginning> Node<S> {
     }
 }
 
-// The bit of a member's number.
+// Returns the bit of a member's number.
 fn hint_of(member: u16) -> u64 {
     1 << (member % 64)
 }
 
-// Whether the member sent a body to all as it took a frame: some may wait for it.
+// Returns whether the member sent a body to all when it accepted a frame, so that waiting writers
+// have to be woken.
 #[tactic(auto, using(crate::proofs::Sent::tells))]
 fn has_sent(answer: &Result<Took, TakeFault>) -> bool
     ensures { HasSent answer.now result }
@@ -609,7 +739,7 @@ fn has_sent(answer: &Result<Took, TakeFault>) -> bool
     }
 }
 
-// Nothing is shown yet of a member as it is.
+// Returns a rollback check of the member as it is, without claims.
 fn comparing_of(alloc: Global, member: &OwnMember) -> Result<Comparing, AllocError>
     ensures { IfOk result (λ comparing. IsComparingOf member.now comparing) }
 {
@@ -622,7 +752,7 @@ fn comparing_of(alloc: Global, member: &OwnMember) -> Result<Comparing, AllocErr
     )
 }
 
-// A copy of the member's keys, and the seats.
+// Returns a copy of the member's keys, and the seats.
 #[tactic(auto, using(crate::proofs::Fresh::none_fresh, crate::proofs::Fresh::fresh_more))]
 fn parts(alloc: Global, member: &OwnMember, seats: u16) -> Result<(Keys, Vec<Seat>), AllocError>
     ensures keys { IfOk result (λ parts. parts.0 ≡ member.now.keys) }
@@ -636,7 +766,7 @@ fn parts(alloc: Global, member: &OwnMember, seats: u16) -> Result<(Keys, Vec<Sea
     Ok((keys, made))
 }
 
-// The answer to a frame of a number that opened, by the member's.
+// Returns the answer to an authenticated frame with this `number`, made of the member's answer.
 fn received_of(number: u64, answer: Result<Took, TakeFault>) -> Result<Received, AllocError>
     requires { IfOk answer (λ _. number + 1 < 2 ^ 64) }
     ensures memory { IfOk result (λ _. answer ≢ Err TakeFault.Memory) }

@@ -1,31 +1,101 @@
-ghost use Rattle.std.specs.Prelude.{◌≡◌, ◌↔◌, ◌≤◌, [], ◌∷◌, IfOk, IsTrue};
-ghost use Rattle.pay_node.specs.Receipts.{ShowsAlone, call_in, entries_after, fault_of_call};
-ghost use Rattle.pay_node.specs.Receipts.{has_entry, reading_at};
+//! Receipts: the calls of a node, and what a seat keeps of each.
+
+ghost use Rattle.std.specs.Prelude.{◌≡◌, ◌↔◌, [], ◌∷◌, IsTrue, ◌≤◌, IfOk};
+ghost use Rattle.pay_node.specs.Receipts.{fault_of_call, has_entry, ShowsAlone, call_in};
+ghost use Rattle.pay_node.specs.Receipts.{entries_after, reading_at};
 ghost use Rattle.pay_member.specs.declared.reading.Reading.TheVariants as reading;
 
-use crate::call::Call;
 use pay_frame::{Body, SharedBody};
 use pay_link::Checked;
-use pay_member::{Event, MemberFault, Question, Reply, Took, is_same_body};
+use pay_member::{
+    Bodies, Event, MemberFault, Question, Reading, Reply, Took, is_alone, is_same_body,
+};
 use std::alloc::{AllocError, Global};
 use std::marker::Model;
 
-/// A call as a receipt keeps it. Nearly all are a frame that was taken or a body that was served,
-/// which share what the member has.
+/// A call and its answer.
+#[derive(Drop)]
+pub enum Call {
+    /// An event was handed in: the member's reply, or why the event was refused.
+    Handed {
+        event: Event,
+        answer: Result<Reply, MemberFault>,
+    },
+    /// A question was answered.
+    Read(Reading),
+}
+
+impl Call {
+    /// Returns what stands in the room for a call before there is one.
+    pub(crate) fn none(alloc: Global) -> Call {
+        Call::Read(Reading::Sent {
+            from: 0,
+            max: 0,
+            bodies: Bodies::new(Vec::new(alloc)),
+        })
+    }
+
+    /// Returns whether the call has an entry in the history.
+    pub(crate) fn has_entry(&self) -> bool
+        ensures { result ≡ has_entry self.now }
+    {
+        match self {
+            Call::Handed { answer: Ok(_), .. } => true,
+            Call::Handed { answer: Err(_), .. } | Call::Read(_) => false,
+        }
+    }
+
+    /// Returns why the event that was handed in was refused, if it was.
+    pub(crate) fn fault(&self) -> Option<MemberFault>
+        ensures { result ≡ fault_of_call self.now }
+    {
+        match self {
+            Call::Handed {
+                answer: Err(fault),
+                ..
+            } => Some(*fault),
+            Call::Handed { answer: Ok(_), .. } | Call::Read(_) => None,
+        }
+    }
+
+    /// Returns whether the call is the reading of `body` at `number`, alone.
+    pub(crate) fn is_of_body(&self, number: usize, body: &Body) -> bool
+        ensures { IsTrue result ↔ (self.now ≡ Call.Read (reading.Sent number 1 (body.now ∷ []))) }
+    {
+        match self {
+            Call::Read(Reading::Sent { from, max, bodies }) => {
+                *from == number && *max == 1 && is_alone(bodies.as_slice(), body)
+            }
+            _ => false,
+        }
+    }
+
+    /// Returns whether the call is `question` with this `answer`.
+    pub(crate) fn is_of<Q: Question>(&self, question: Q, answer: &Q::Answer) -> bool
+        ensures { IsTrue result ↔ (self.now ≡ Call.Read (Q.reading question answer.now)) }
+    {
+        match self {
+            Call::Read(reading) => question.is_reading(answer, reading),
+            Call::Handed { .. } => false,
+        }
+    }
+}
+
+/// A call in the form of a receipt. Nearly all calls are an accepted frame or a fetched body, which
+/// share what the member has.
 #[derive(Drop)]
 pub(crate) enum KeptCall {
-    /// The member took this frame.
+    /// The member accepted this frame.
     Taken { frame: Checked, took: Took },
-    /// It showed this body alone at a place of all that it sent.
+    /// The member showed this body alone at a place of all that it sent.
     Sent { number: usize, body: SharedBody },
     /// Any other call.
     Other(Box<Call>),
 }
 
-// A refused frame stays in its receipt, value and all: its clause says of the very frame handed in
-// that the entries before call for this refusal.
-// term: receipt: a seat's note of one answered call, with the history's length before it
-/// One answered call of a seat. Contracts see it as how many entries the history had before the
+// A refused frame stays in its receipt with its value. A clause says of that very frame that the
+// entries before the call require this refusal.
+/// An answered call of a seat. Contracts see it as how many entries the history had before the
 /// call, and the call with its answer.
 #[derive(Drop)]
 pub struct Receipt {
@@ -42,8 +112,8 @@ impl Model for Receipt {
 }
 
 impl Receipt {
-    /// Of an event that was handed in, which is put in the room unless it was a frame that was
-    /// taken: then the room comes back.
+    /// Creates the receipt of an event that was handed in. The event is put into `room` unless it
+    /// is an accepted frame: then the room is returned.
     pub(crate) fn of_event(
         room: Box<Call>,
         seen: usize,
@@ -66,7 +136,7 @@ impl Receipt {
         }
     }
 
-    /// Of a question with a copy of its answer.
+    /// Creates the receipt of `question` with a copy of its answer.
     pub(crate) fn of_reading<Q: Question>(
         alloc: Global,
         seen: usize,
@@ -81,7 +151,7 @@ impl Receipt {
         Ok(Receipt { seen, call })
     }
 
-    /// Of the body at a number, which was shown alone.
+    /// Creates the receipt of the body at `number`, which was shown alone.
     pub(crate) fn of_body(seen: usize, number: usize, body: SharedBody) -> Receipt
         ensures { result ≡ reading_at seen (reading.Sent number 1 (body ∷ [])) }
     {
@@ -89,15 +159,15 @@ impl Receipt {
         Receipt { seen, call }
     }
 
-    /// How many entries the history had before the call. It is the place of the call's own entry,
-    /// if it has one.
+    /// Returns how many entries the history had before the call. It is the place of the call's own
+    /// entry, if it has one.
     pub fn history_len(&self) -> usize
         ensures { result ≡ self.now.seen }
     {
         self.seen
     }
 
-    /// Whether the call has an entry in the history.
+    /// Returns whether the call has an entry in the history.
     pub fn has_entry(&self) -> bool
         ensures { result ≡ has_entry self.now.call }
     {
@@ -108,14 +178,14 @@ impl Receipt {
         }
     }
 
-    /// Whether the history had at most so many entries once the call was answered.
+    /// Returns whether the history had at most `entries` entries after the call was answered.
     pub(crate) fn tells_no_more(&self, entries: usize) -> bool
         ensures { IsTrue result ↔ (entries_after self.now ≤ entries) }
     {
         self.seen < entries || (self.seen == entries && !self.has_entry())
     }
 
-    /// Why what was handed in was refused, if it was.
+    /// Returns why the event that was handed in was refused, if it was.
     pub fn fault(&self) -> Option<MemberFault>
         ensures { result ≡ fault_of_call self.now.call }
     {
@@ -125,14 +195,14 @@ impl Receipt {
         }
     }
 
-    /// The call, as it is kept.
+    /// Returns the call in the form of the receipt.
     pub(crate) fn kept_call(&self) -> &KeptCall
         ensures { call_in result.now ≡ self.now.call }
     {
         &self.call
     }
 
-    /// Whether it shows this body alone, as that of a number.
+    /// Returns whether the receipt shows `body` alone, as that of `number`.
     pub(crate) fn shows_alone(&self, number: usize, body: &Body) -> bool
         ensures { IsTrue result ↔ ShowsAlone self.now number body.now }
     {
@@ -146,7 +216,8 @@ impl Receipt {
         }
     }
 
-    /// Whether it is of this question with this answer, at a history of so many entries.
+    /// Returns whether the receipt is of `question` with this `answer`, at a history of `seen`
+    /// entries.
     pub(crate) fn is_reading<Q: Question>(
         &self,
         seen: usize,
@@ -159,7 +230,7 @@ impl Receipt {
         self.seen == seen && self.is_of(question, answer)
     }
 
-    // Whether it is of this question with this answer.
+    // Returns whether the receipt is of `question` with this `answer`.
     fn is_of<Q: Question>(&self, question: Q, answer: &Q::Answer) -> bool
         ensures { IsTrue result ↔ (self.now.call ≡ Call.Read (Q.reading question answer.now)) }
     {

@@ -1,12 +1,12 @@
 -- A run in which all came that was asked for.
 use Rattle.std.proofs.Common.{◌≡◌, ℕ, ◌+◌, ◌-◌, ◌^◌, ◌<◌, zero, suc, min, List, [], ◌∷◌, ◌++◌, length, slice_get, Option, Some, refl, sym, ap, ◌∙◌, arith}
 use Rattle.std.proofs.lemmas.Grind.{flat_map-append}
-use Rattle.pay_engine.specs.Handling.{Steps}
+use Rattle.pay_frame.specs.Handling.{Steps}
 use Rattle.pay_frame.specs.Frame.{FrameFields, frame_bytes}
 use Rattle.pay_link.specs.Keys.{KeyFields}
 use Rattle.pay_link.specs.Sealing.{want_frame}
 use Rattle.pay_node.specs.Nodes.{NodeFields}
-use Rattle.pay_peers.specs.declared.peer_reader.PeerReader.{PeerReader}
+use Rattle.pay_peers.specs.declared.feeding.PeerReader.{PeerReader}
 use Rattle.pay_peers.specs.declared.window.Window.{Window}
 use Rattle.pay_peers.specs.Ahead.{wants}
 use Rattle.pay_peers.specs.AheadLaws.{AsksForAll, TakesAhead, taking_ahead}

@@ -8,15 +8,15 @@ use Rattle.pay_frame.specs.Frame.{FrameFields, frame_bytes}
 use Rattle.pay_link.specs.Keys.{KeyFields, is_peer, key_for}
 use Rattle.pay_link.specs.Opening.{OpenedFields, judgement, opened_fields, right_tag}
 use Rattle.pay_link.specs.Sealing.{want_frame}
-use Rattle.pay_link.specs.declared.link_fault.LinkFault.{LinkFault}
-use Rattle.pay_link.specs.declared.link_fault.LinkFault.TheVariants.{NotForMe, UnknownSender, UnknownOwner, BadTag}
-use Rattle.pay_member.specs.declared.incoming.Incoming.{Incoming}
-use Rattle.pay_member.specs.declared.incoming.Incoming.TheVariants.{Message, Want}
-use Rattle.pay_member.specs.declared.received.Received.{Received}
-use Rattle.pay_member.specs.declared.outcome.Outcome.TheVariants.{Link}
-use Rattle.pay_member.specs.declared.take_fault.TakeFault.{TakeFault}
-use Rattle.pay_member.specs.declared.take_fault.TakeFault.TheVariants as fault
-use Rattle.pay_member.specs.declared.took.Took.{Took as Reply}
+use Rattle.pay_link.specs.declared.opened.LinkFault.{LinkFault}
+use Rattle.pay_link.specs.declared.opened.LinkFault.TheVariants.{NotForMe, UnknownSender, UnknownOwner, BadTag}
+use Rattle.pay_member.specs.declared.bringing.Incoming.{Incoming}
+use Rattle.pay_member.specs.declared.bringing.Incoming.TheVariants.{Message, Want}
+use Rattle.pay_member.specs.declared.ledger.Received.{Received}
+use Rattle.pay_member.specs.declared.bringing.Outcome.TheVariants.{Link}
+use Rattle.pay_member.specs.declared.fault.TakeFault.{TakeFault}
+use Rattle.pay_member.specs.declared.fault.TakeFault.TheVariants as fault
+use Rattle.pay_member.specs.declared.event.Took.{Took as Reply}
 use Rattle.pay_member.specs.Bringing.{incoming_at, incoming_of, is_want}
 use Rattle.pay_member.specs.Serving.{bytes_if_any}
 use Rattle.pay_node.specs.Nodes.{IsAnsweredAs, NodeFields, next_of, outcome_of_take}
@@ -164,7 +164,7 @@ same_ways law n peer before after w f r (Err fault) at none is one sender due or
 pub by_one : OpenedIs → AheadByOne
 unfolding early incoming_at
 by_one law n peer before after f text one fed order =
-    let same = same_ways law n peer before.seat after.seat before.window f fed.received (incoming_of (judgement n.keys f)) refl (tells_none n.keys f) fed.is one fed.due.sender fed.due.number order in (
+    let same = same_ways law n peer before.seat fed.seat before.window f fed.received (incoming_of (judgement n.keys f)) refl (tells_none n.keys f) fed.is one fed.due.sender fed.due.number order in (
       record { received = fed.received; is = fed.is; want = fed.asks ∙ same.text },
       subst (λ (w : Window). w.asked ≡ w.due + 1) (sym fed.window) same.one,
     )

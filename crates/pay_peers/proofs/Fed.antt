@@ -1,47 +1,51 @@
 -- A frame that was due and brought, and the WANTs behind its answer; and a stream of which nothing was read yet.
 use Rattle.std.proofs.Common.{◌≡◌, ℕ, ◌+◌, ◌-◌, List, [], Some, None, Err, refl, ap, ◌∙◌, arith}
 use Rattle.std.proofs.KnownBytes.{Appends-nil, Consumes-nil}
-use Rattle.pay_engine.specs.declared.engine_fault.EngineFault.TheVariants.{Memory}
-use Rattle.pay_engine.specs.Handling.{Open, Start}
+use Rattle.pay_frame.specs.declared.engine.EngineFault.TheVariants.{Memory}
+use Rattle.pay_frame.specs.Handling.{Open, Start}
 use Rattle.pay_frame.specs.Frame.{FrameFields}
 use Rattle.pay_frame.specs.Stream.{IsFramesThen}
 use Rattle.pay_link.specs.Keys.{KeyFields}
-use Rattle.pay_member.specs.declared.received.Received.{Received}
+use Rattle.pay_member.specs.declared.ledger.Received.{Received}
 use Rattle.pay_node.specs.Nodes.{IsReceived, NodeFields}
 use Rattle.pay_node.specs.Seats.{SeatFields}
-use Rattle.pay_peers.specs.declared.peer_reader.PeerReader.{PeerReader}
+use Rattle.pay_peers.specs.declared.feeding.PeerReader.{PeerReader}
 use Rattle.pay_peers.specs.declared.window.Window.{Window}
-use Rattle.pay_peers.specs.Ahead.{HasFedAhead, IsDue, IsFedAhead, next_told, wants}
+use Rattle.pay_peers.specs.Ahead.{HasFedAhead, IsDue, IsFedAhead, LooksForLie, next_told, wants}
 use Rattle.pay_peers.specs.Window.{asked_behind, first_count, first_window, moved_window, row_of, window_behind}
 
 -- where a next frame is told
 pub fed_on :
-    (n : NodeFields) (peer ahead : ℕ) (before : PeerReader) (seat : SeatFields) (window : Window) (f : FrameFields) (r : Received) (number next : ℕ)
-    → IsDue peer before f → IsReceived n before.seat seat f r
-    → number ≡ f.number → Some next ≡ next_told r.outcome number → window ≡ moved_window ahead before.window next
-    → IsFedAhead n peer ahead before (record { seat = seat; window = window }) f
+    (n : NodeFields) (peer ahead : ℕ) (before after : PeerReader) (seat : SeatFields) (f : FrameFields) (r : Received) (number next : ℕ)
+    → IsDue peer before f → IsReceived n before.seat seat f r → LooksForLie n peer seat before.lie after
+    → number ≡ f.number → Some next ≡ next_told r.outcome number → after.window ≡ moved_window ahead before.window next
+    → IsFedAhead n peer ahead before after f
     (wants n.keys peer (asked_behind ahead before.window (next_told r.outcome f.number)))
-fed_on n peer ahead before seat window f r number next due is of told moves = record {
+fed_on n peer ahead before after seat f r number next due is lie of told moves = record {
   due = due;
   received = r;
+  seat = seat;
   is = is;
+  lie = lie;
   window = moves ∙ ap (window_behind ahead before.window) (told ∙ ap (next_told r.outcome) of);
   asks = refl;
 }
 
 -- where none is
 pub fed_not :
-    (n : NodeFields) (peer ahead : ℕ) (before : PeerReader) (seat : SeatFields) (f : FrameFields) (r : Received) (number : ℕ)
-    → IsDue peer before f → IsReceived n before.seat seat f r
-    → number ≡ f.number → None ≡ next_told r.outcome number
-    → IsFedAhead n peer ahead before (record { seat = seat; window = before.window }) f []
-fed_not n peer ahead before seat f r number due is of told =
+    (n : NodeFields) (peer ahead : ℕ) (before after : PeerReader) (seat : SeatFields) (f : FrameFields) (r : Received) (number : ℕ)
+    → IsDue peer before f → IsReceived n before.seat seat f r → LooksForLie n peer seat before.lie after
+    → number ≡ f.number → None ≡ next_told r.outcome number → after.window ≡ before.window
+    → IsFedAhead n peer ahead before after f []
+fed_not n peer ahead before after seat f r number due is lie of told stays =
     let none = told ∙ ap (next_told r.outcome) of in
     record {
       due = due;
       received = r;
+      seat = seat;
       is = is;
-      window = ap (window_behind ahead before.window) none;
+      lie = lie;
+      window = stays ∙ ap (window_behind ahead before.window) none;
       asks = ap (λ next. wants n.keys peer (asked_behind ahead before.window next)) none;
     }
 

@@ -1,33 +1,35 @@
--- A fed seat has its receipts still, and some more behind them, each of a frame of its peer.
+-- A fed seat has its receipts still, and some more after them, each of a frame or a lie of its peer.
 use Rattle.std.specs.Prelude.{⊤}
 use Rattle.std.specs.List.{All}
-use Rattle.std.proofs.Common.{◌≡◌, List, [], ◌∷◌, ◌++◌, Option, Result, Ok, Err, ℕ, inl, inr, refl, sym, ap, ◌∙◌, append-nil, append_assoc}
+use Rattle.std.proofs.Common.{◌≡◌, ◌⊎◌, None, Some, List, [], ◌∷◌, ◌++◌, Option, Result, Ok, Err, ℕ, inl, inr, refl, sym, ap, ◌∙◌, append-nil, append_assoc}
 use Rattle.std.proofs.lemmas.List.Elements.{All-append, All-cons, All-nil}
-use Rattle.pay_engine.specs.declared.engine_fault.EngineFault.{EngineFault}
-use Rattle.pay_engine.specs.declared.engine_fault.EngineFault.TheVariants.{Memory, Frame, Read, Write, Bound}
+use Rattle.pay_frame.specs.declared.engine.EngineFault.{EngineFault}
+use Rattle.pay_frame.specs.declared.engine.EngineFault.TheVariants.{Memory, Frame, Read, Write, Bound}
 use Rattle.pay_frame.specs.Frame.{FrameFields}
-use Rattle.pay_link.specs.declared.link_fault.LinkFault.{LinkFault}
+use Rattle.pay_link.specs.declared.opened.LinkFault.{LinkFault}
 use Rattle.pay_member.specs.declared.event.Event.{Event}
 use Rattle.pay_member.specs.declared.event.Event.TheVariants.{Taken}
 use Rattle.pay_member.specs.declared.fault.MemberFault.{MemberFault}
 use Rattle.pay_member.specs.declared.fault.MemberFault.TheVariants as fault
-use Rattle.pay_member.specs.declared.incoming.Incoming.{Incoming}
-use Rattle.pay_member.specs.declared.incoming.Incoming.TheVariants.{Message, Want}
-use Rattle.pay_member.specs.declared.received.Received.{Received}
-use Rattle.pay_member.specs.declared.reply.Reply.{Reply}
+use Rattle.pay_member.specs.declared.bringing.Incoming.{Incoming}
+use Rattle.pay_member.specs.declared.bringing.Incoming.TheVariants.{Message, Want}
+use Rattle.pay_member.specs.declared.ledger.Lie.{Lie}
+use Rattle.pay_member.specs.declared.ledger.Received.{Received}
+use Rattle.pay_member.specs.declared.reading.Reading.TheVariants.{LastLie}
+use Rattle.pay_member.specs.declared.event.Reply.{Reply}
 use Rattle.pay_member.specs.Answer.{answer_of_take}
 use Rattle.pay_member.specs.Bringing.{incoming_at}
 use Rattle.pay_link.specs.Checked.{checked_fields}
-use Rattle.pay_node.specs.declared.call.Call.{Call}
-use Rattle.pay_node.specs.declared.call.Call.TheVariants.{Handed}
+use Rattle.pay_node.specs.declared.receipt.Call.{Call}
+use Rattle.pay_node.specs.declared.receipt.Call.TheVariants.{Handed}
 use Rattle.pay_node.specs.Receipts.{ReceiptFields}
-use Rattle.pay_node.specs.Nodes.{IsAnsweredAs, NodeFields}
-use Rattle.pay_node.specs.Receipts.{receipts_of}
-use Rattle.pay_node.specs.Seats.{SeatFields, with_receipts}
-use Rattle.pay_engine.specs.Handling.{Steps, Start}
-use Rattle.pay_peers.specs.declared.peer_reader.PeerReader.{PeerReader}
-use Rattle.pay_peers.specs.Ahead.{HasFedAhead, feeding_ahead}
-use Rattle.pay_peers.specs.Growing.{SeatGrows, HandsFrameOf}
+use Rattle.pay_node.specs.Nodes.{IsAccused, IsAnsweredAs, NodeFields}
+use Rattle.pay_node.specs.Receipts.{reading_at, receipts_of}
+use Rattle.pay_node.specs.Seats.{KeepsReceipt, SeatFields, with_receipts}
+use Rattle.pay_frame.specs.Handling.{Steps, Start}
+use Rattle.pay_peers.specs.declared.feeding.PeerReader.{PeerReader}
+use Rattle.pay_peers.specs.Ahead.{HasFedAhead, LooksForLie, feeding_ahead}
+use Rattle.pay_peers.specs.Growing.{SeatGrows, ConcernsPeer}
 use Rattle.pay_peers.proofs.ByOne.{frame_is}
 use Rattle.pay_peers.proofs.Wants.{OpenedIs}
 
@@ -35,7 +37,7 @@ pub grows_on : (peer : ℕ) (a b c : SeatFields) → SeatGrows peer a b → Seat
 grows_on peer a b c one two = record {
   more = one.more ++ two.more;
   is = two.is ∙ ap (λ (s : SeatFields). with_receipts s two.more) one.is ∙ ap (λ (l : List ReceiptFields). record a { receipts = l }) (append_assoc a.receipts one.more two.more);
-  each = All-append (λ (r : ReceiptFields). HandsFrameOf peer r.call) one.more two.more one.each two.each;
+  each = All-append (λ (r : ReceiptFields). ConcernsPeer peer r.call) one.more two.more one.each two.each;
 }
 
 pub same_grows : (peer : ℕ) (a b : SeatFields) → b ≡ a → SeatGrows peer a b
@@ -65,10 +67,25 @@ answered_grows law n peer before after f (Ok (Message opened)) r at sender is =
     record {
       more = receipts_of _ (Taken (checked_fields opened)) (answer_of_take is.answer);
       is = is.answered.receipt;
-      each = all_of (HandsFrameOf peer) _ (Taken (checked_fields opened)) (answer_of_take is.answer) (λ a. from);
+      each = all_of (ConcernsPeer peer) _ (Taken (checked_fields opened)) (answer_of_take is.answer) (λ a. from);
     }
 answered_grows law n peer before after f (Ok (Want from number)) r at sender is = same_grows peer before after is.1
 answered_grows law n peer before after f (Err fault) r at sender is = same_grows peer before after is.1
+
+-- a look for a lie leaves at most its receipt
+kept_grows : (peer : ℕ) (before after : SeatFields) (seen : ℕ) (lie : Option Lie) → KeepsReceipt before after (reading_at seen (LastLie peer lie)) → SeatGrows peer before after
+kept_grows peer before after seen lie keeps = go keeps.more where
+  go : (after ≡ before) ⊎ (after ≡ with_receipts before (reading_at seen (LastLie peer lie) ∷ [])) → SeatGrows peer before after
+  go (inl same) = same_grows peer before after same
+  go (inr one) = record { more = reading_at seen (LastLie peer lie) ∷ []; is = one; each = All-cons (λ (r : ReceiptFields). ConcernsPeer peer r.call) _ [] refl (All-nil _) }
+
+accused_grows : (n : NodeFields) (peer : ℕ) (before after : SeatFields) (lie : Option Lie) → IsAccused n peer before after lie → SeatGrows peer before after
+accused_grows n peer before after None is = same_grows peer before after is.1
+accused_grows n peer before after (Some lie) is = kept_grows peer before after _ (Some lie) is.receipt
+
+pub looked_grows : (n : NodeFields) (peer : ℕ) (seat : SeatFields) (known : Option Lie) (after : PeerReader) → LooksForLie n peer seat known after → SeatGrows peer seat after.seat
+looked_grows n peer seat known after (inl same) = same_grows peer seat after.seat same.0
+looked_grows n peer seat known after (inr accused) = accused_grows n peer seat after.seat after.lie accused
 
 fed_grows :
     OpenedIs → (n : NodeFields) (peer ahead : ℕ) (before after : PeerReader) (fs : List FrameFields) (text : List ℕ)
@@ -76,7 +93,9 @@ fed_grows :
 fed_grows law n peer ahead before after [] text are = same_grows peer before.seat after.seat (ap (λ (s : PeerReader). s.seat) are.0)
 fed_grows law n peer ahead before after (f ∷ fs) text are =
     grows_on peer before.seat are.0.seat after.seat
-    (answered_grows law n peer before.seat are.0.seat f (incoming_at n.keys f) are.3.received refl are.3.due.sender are.3.is)
+    (grows_on peer before.seat are.3.seat are.0.seat
+    (answered_grows law n peer before.seat are.3.seat f (incoming_at n.keys f) are.3.received refl are.3.due.sender are.3.is)
+    (looked_grows n peer are.3.seat before.lie are.0 are.3.lie))
     (fed_grows law n peer ahead are.0 after fs are.2 are.4)
 
 pub run_grows :

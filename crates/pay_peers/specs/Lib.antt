@@ -7,3 +7,4 @@ pub mod Dialing
 pub mod Telling
 pub mod SeatAsks
 pub mod Answering
+pub mod Challenging

@@ -1,35 +1,34 @@
--- Which frames of a peer are asked for ahead on one connection.
+-- Which frames of a peer are in flight on a connection.
 use Rattle.std.specs.Prelude.{ℕ, ◌+◌, ◌-◌, ◌^◌, ◌<◌, ◌≤◌, zero, suc, nat_le, nat_lt, min, max}
 use Rattle.std.specs.Prelude.{if◌then◌else◌, List, [], ◌∷◌, Option, Some, None}
 use Rattle.pay_peers.specs.declared.window.Window.{Window}
 
--- node: Window: Frames that are asked for ahead are [under way](DEFINITIONS.md#a-connection). If
---   a write of WANTs takes longer than a second, the connection ends.
--- so many frames may be asked for and not come yet
+-- `count` frames may be in flight
 abbrev pub CanAskAhead : ℕ → Type 0
 CanAskAhead count = (0 < count) × (count ≤ 1024)
 
--- before any connection: nothing was asked for
+-- before any connection: nothing was requested
 abbrev pub empty_window : Window
 empty_window = record { due = 0; asked = 0 }
 
--- on a new connection: the frames from the next one on were asked for, four or as many as may be
+-- on a new connection: the frames from the next one on were requested, four or as many as the
+-- pipelining depth
 abbrev pub first_count : ℕ → ℕ
 first_count ahead = min ahead 4
 
--- page: `first_window`, `moved_window`: which frames of a peer are asked for and didn't come, on a
---   new connection and after an answer
+-- page: `first_window`, `moved_window`: which frames of a peer are in flight, on a new connection
+--   and after an answer
 abbrev pub first_window : ℕ → ℕ → Window
 first_window ahead from = record { due = from; asked = from + first_count ahead }
 
--- What is due behind the frame that was, where the peer's next frame is this one: what was asked
--- for behind it, or, where that was the last one, the first that is missing.
+-- The expected number after the expected frame came, if the peer's next frame is this one. It is
+-- what was requested after that frame or, if that was the last one, the first missing number.
 abbrev pub due_behind : Window → ℕ → ℕ
 due_behind w next = if nat_lt (w.due + 1) w.asked then w.due + 1 else max w.asked next
 
--- The number to go on asking from, and how many: at most two, and as many are under way as may be.
--- Where a frame behind all that was asked for is there already, none: what is under way comes
--- first.
+-- The number from which further frames are requested, and how many: at most two, up to the
+-- pipelining depth. There are none if a frame beyond all requests is there already: frames in
+-- flight come first.
 abbrev pub from_behind : Window → ℕ → ℕ
 from_behind w next = max w.asked (due_behind w next)
 
@@ -44,13 +43,13 @@ abbrev pub moved_window : ℕ → Window → ℕ → Window
 moved_window ahead w next =
     record { due = due_behind w next; asked = from_behind w next + count_behind ahead w next }
 
--- so many numbers in a row
+-- consecutive numbers, `count` of them
 abbrev pub row_of : ℕ → ℕ → List ℕ
 row_of from zero = []
 row_of from (suc count) = from ∷ row_of (from + 1) count
 
--- the window behind an answer, and the numbers that are asked for with it: an answer that tells no
--- next frame moves nothing
+-- the window after an answer, and the numbers that are requested with it: an answer without a next
+-- frame moves nothing
 abbrev pub window_behind : ℕ → Window → Option ℕ → Window
 window_behind ahead w None = w
 window_behind ahead w (Some next) = moved_window ahead w next

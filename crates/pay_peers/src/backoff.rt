@@ -1,53 +1,55 @@
-//! How long a worker goes on dialing a peer that it doesn't meet.
+//! How long a worker continues to connect to a peer that it doesn't reach.
 
 ghost use Rattle.std.specs.Prelude.{◌≡◌};
-ghost use Rattle.pay_peers.specs.Dialing.{growing, idle_behind, is_quiet, is_spent};
-ghost use Rattle.pay_peers.specs.Dialing.{pause_behind, stale_behind};
+ghost use Rattle.pay_peers.specs.Dialing.{growing, idle_behind, is_quiet, is_spent, pause_behind};
+ghost use Rattle.pay_peers.specs.Dialing.{stale_behind};
 
-use crate::gain::Gain;
+use crate::readers::Gain;
 
-/// How often in a row, without a frame that opened, a worker dials with [`Dials::Usual`].
+/// The most connections in a row without an authenticated frame that a worker makes with
+/// [`Dials::Usual`].
 pub const MOST_IDLE: u64 = 1_000;
 
-/// For how many seconds a connection may bring nothing until it ends and its peer is dialed anew.
+/// The seconds for which a connection may deliver nothing until it ends and its peer is connected
+/// again.
 pub const QUIET_SECONDS: u64 = 60;
 
-/// How long it then pauses behind each dial, in milliseconds.
+/// The pause after each connection in milliseconds, with [`Dials::Usual`].
 const PAUSE_MILLIS: u64 = 10;
 
 /// The first pauses that grow, each twice the one before.
 const FIRST_MILLIS: [u64; 7] = [10, 20, 40, 80, 160, 320, 640];
 
-/// Each pause behind those.
+/// Each pause after those.
 const LONGEST_MILLIS: u64 = 1_000;
 
-/// How often in a row, without a frame that opened, a worker dials its peer, and how long it pauses
-/// between.
+/// How often in a row, without an authenticated frame, a worker connects to its peer, and how long
+/// it pauses between.
 #[derive(Clone, Copy, Debug, PartialEq, Eq)]
 pub enum Dials {
-    /// [`MOST_IDLE`] times, 10 milliseconds apart.
+    /// The worker connects [`MOST_IDLE`] times, 10 milliseconds apart.
     Usual,
-    /// So many times, with pauses that grow from 10 milliseconds to a second.
+    /// The worker connects this often, with pauses that grow from 10 milliseconds to a second.
     Counted(u64),
-    /// Until the worker has to end, with the same pauses.
+    /// The worker connects until it has to end, with pauses that grow likewise.
     Always,
 }
 
-// Pauses between dials begin anew with a frame that is taken, not with one that opens. A repeat
-// leaves a receipt, and a liar that ends each connection after one would have them left a hundred
-// times a second.
-/// What a worker's dials came to.
+// The pauses between connections begin again with an accepted frame, not with an authenticated one.
+// A repeat leaves a receipt, and a faulty member that ends each connection after a repeat would
+// leave a hundred receipts a second.
+/// The results of a worker's connections.
 #[derive(Drop)]
 pub(crate) struct Backoff {
     dials: Dials,
-    // how many in a row brought no frame that opened
+    // how many connections in a row had no authenticated frame
     idle: u64,
-    // how many in a row brought no frame that was taken
+    // how many connections in a row had no accepted frame
     stale: u64,
 }
 
 impl Backoff {
-    /// No dial was made yet.
+    /// Creates the results before the first connection.
     pub(crate) fn new(dials: Dials) -> Backoff
         ensures { result ≡ record { dials = dials; idle = 0; stale = 0 } }
     {
@@ -58,7 +60,7 @@ impl Backoff {
         }
     }
 
-    /// Whether the worker has dialed for the last time.
+    /// Returns whether the worker has connected for the last time.
     // promise: dials
     pub(crate) fn is_over(&self) -> bool
         ensures { result ≡ is_spent self.now.dials self.now.idle }
@@ -70,8 +72,9 @@ impl Backoff {
         }
     }
 
-    /// Counts a dial, and answers for how many milliseconds the worker pauses then. The count of
-    /// idle dials begins anew with a frame that opens, and the pauses with one that is taken.
+    /// Counts a connection, and returns for how many milliseconds the worker pauses then. The count
+    /// of idle connections begins again with an authenticated frame, and the pauses with an
+    /// accepted one.
     // promise: dials
     pub(crate) fn note(&mut self, gain: Gain) -> u64
         ensures dials { self.new.dials ≡ self.old.dials }
@@ -94,8 +97,8 @@ impl Backoff {
     }
 }
 
-/// Whether a connection that stood for so many seconds, and brought nothing, was quiet and didn't
-/// fail. The timer that ends one may be early.
+/// Returns whether a connection that delivered nothing for `seconds` seconds was quiet and didn't
+/// fail. The timer that ends a connection may be early.
 // promise: dials
 pub(crate) fn is_quiet(seconds: u64) -> bool
     ensures { result ≡ is_quiet seconds }
@@ -103,7 +106,7 @@ pub(crate) fn is_quiet(seconds: u64) -> bool
     seconds >= QUIET_SECONDS - 1
 }
 
-// The pause behind so many dials in a row that brought nothing new.
+// Returns the pause after `stale` connections in a row that delivered nothing new.
 fn growing(stale: u64) -> u64
     ensures { result ≡ growing stale }
 {

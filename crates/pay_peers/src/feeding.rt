@@ -1,21 +1,63 @@
 //! How a node is fed from a peer's stream.
 
-ghost use Rattle.pay_io.specs.Counts.{KeepsCounts, counts_of};
-ghost use Rattle.pay_engine.specs.EngineFault.{engine_of};
+ghost use Rattle.std.specs.Prelude.{◌≡◌, ◌+◌, ◌≤◌, ◌^◌, IsTrue, None, false};
+ghost use Rattle.pay_frame.specs.Counts.{KeepsCounts, counts_of};
+ghost use Rattle.pay_frame.specs.EngineFault.{engine_of};
 ghost use Rattle.pay_link.specs.Keys.{IsPeer};
 ghost use Rattle.pay_peers.specs.Feeding.{HasFed, feeding, want_for_all};
+ghost use Rattle.pay_peers.specs.Window.{first_count, first_window, empty_window};
 
 use crate::reading_ahead::MOST_WAITING;
-use pay_engine::{EngineFault, FrameHandler, handle_stream};
-use pay_frame::{FrameFault, FrameRef};
+use crate::window::{Ahead, Window};
+use pay_frame::{EngineFault, FrameFault, FrameHandler, FrameRef, Input, Output, handle_stream};
 use pay_hmac::Tagger;
-use pay_io::{Input, Output};
 use pay_link::want;
+use pay_member::Lie;
 use pay_node::{Beginning, Gate, Node, Seat};
 use std::alloc::{AllocError, Global};
 use std::sync::Wait;
 
-/// Brings each frame to a node from a seat, and writes the WANT of the answer.
+/// The seat for a peer's frames, and the frames that were requested on its connection.
+#[derive(Drop)]
+pub struct PeerReader {
+    /// The seat with the receipts of the peer's frames.
+    pub seat: Seat,
+    /// The window of the current connection.
+    pub window: Window,
+    /// The peer's last lie, once one was found.
+    pub lie: Option<Lie>,
+}
+
+impl PeerReader {
+    /// Creates a reader with this `seat` before the first connection.
+    pub fn new(seat: Seat) -> PeerReader
+        ensures { result ≡ record { seat = seat; window = empty_window; lie = None } }
+    {
+        PeerReader {
+            seat,
+            window: Window::new(),
+            lie: None,
+        }
+    }
+
+    /// Begins a connection: the frames from `from` on are requested, as many as a connection begins
+    /// with. Returns whether there are that many numbers.
+    pub fn begin(&mut self, ahead: Ahead, from: u64) -> bool
+        ensures seat { self.new.seat ≡ self.old.seat }
+        ensures begun { IsTrue result → self.new.window ≡ first_window ahead.count from }
+        ensures full { result ≡ false → 2 ^ 64 ≤ from + first_count ahead.count }
+    {
+        match Window::first(ahead, from) {
+            Some(window) => {
+                self.window = window;
+                true
+            }
+            None => false,
+        }
+    }
+}
+
+/// A handler that passes each frame to a node from a seat, and writes the WANT of the answer.
 #[derive(Drop)]
 struct FromPeer<'a, R, S: Beginning, T, G> {
     rt: &'a R,
@@ -67,12 +109,12 @@ where
     }
 }
 
-/// Feeds a node from a peer's stream: writes the WANT for all that the peer sent, then brings each
-/// frame that is read, and writes the WANT of the answer, if any.
+/// Feeds a node from the stream of `peer`. It writes the WANT for all that the peer sent. Then it
+/// passes each frame that is read to the node, and writes the WANT of the answer, if any.
 ///
-/// A fault in the frames ends it, and is returned. Where a read failed or no more may be made, all
-/// frames that were read were brought. After another fault a prefix of them was, and a prefix of
-/// their WANTs is written.
+/// A fault in the frames ends the loop, and is returned. After a failed read, and at the read
+/// limit, the node has received all frames that were read. After another fault it has received a
+/// prefix of them, and a prefix of their WANTs is written.
 // promise: early ends (counts); inbound streams (fed)
 pub fn read_peer<S, R, T, G, In, Out>(
     rt: &R,

@@ -1,29 +1,29 @@
-//! Laws of asking ahead. Each body does nothing but name the laws that it stands on: the contract
-//! is the law.
+//! Laws of pipelining. Each body only names the laws that the proof needs: the contract is the law.
 
 ghost use Rattle.pay_peers.specs.AheadLaws.{AheadByOne, AsksForAll, AskedOnce, OpensByOne};
 
-/// No number is asked for twice on one connection, and none is left out that is due.
+/// States that no number is requested twice on one connection, and that no expected number is left
+/// out.
 // promise: asked ahead
 pub fn asked_once()
     ensures { AskedOnce }
 {}
 
-/// While frames come in their order a window opens by one with each, up to as many as may be under
-/// way, and all numbers from 0 on are asked for, each once.
+/// States that a window opens by one with each frame, while frames come in their order, up to the
+/// pipelining depth. All numbers from 0 on are requested, each once.
 // promise: asked ahead
 pub fn opens_by_one()
     ensures { OpensByOne }
 {}
 
-/// In a run in which all came that was asked for, the numbers asked for are those from 0 on, and
-/// never more than may be are under way.
+/// States what is requested if all requested frames came. It is the numbers from 0 on, and no more
+/// than the pipelining depth are in flight.
 // promise: asked ahead
 pub fn asks_for_all()
     ensures { AsksForAll }
 {}
 
-/// Asking ahead by one frame is not asking ahead.
+/// States that a pipelining depth of one frame is the same as no pipelining.
 // promise: asked ahead
 pub fn ahead_by_one()
     ensures { AheadByOne }

@@ -1,8 +1,8 @@
-//! The streams of a node's peers: what is read from them and brought to it, how their WANTs are
-//! answered, how long they are dialed; and the node as a desk's teller.
+//! The streams of a node's peers, and the node as a desk's teller. This covers what the node
+//! receives from them, how their WANTs are answered, and how long the node connects to them.
 //!
-//! It stands on the calls of a [`Node`](pay_node::Node) alone: each is made from a seat, which
-//! keeps its receipt.
+//! It uses only the calls of a [`Node`](pay_node::Node): each call is made from a seat, which keeps
+//! its receipt.
 //!
 //! ```
 //! read_ahead(&context, &gate, peer, Ahead::usual(), &mut asking, &mut reader, &mut writer)?;
@@ -10,30 +10,22 @@
 //! ```
 #![tactic(auto)]
 
-mod admission;
 mod answering;
 mod backoff;
-mod context;
+mod challenging;
 mod feeding;
-mod gain;
 pub mod laws;
-mod observer;
-mod peer_reader;
 mod readers;
 mod reading_ahead;
 mod teller;
-mod wanted;
 mod window;
 mod writing;
 
-pub use admission::Admission;
 pub use backoff::{Dials, MOST_IDLE, QUIET_SECONDS};
-pub use context::NodeContext;
-pub use feeding::read_peer;
-pub use observer::{Observer, PeerEvent};
-pub use peer_reader::PeerReader;
-pub use readers::{Dial, Dialed, run_readers};
+pub use challenging::CLAIM_SECONDS;
+pub use feeding::{PeerReader, read_peer};
+pub use readers::{Dial, Dialed, NodeContext, Observer, PeerEvent, run_readers};
 pub use reading_ahead::read_ahead;
 pub use teller::NodeTeller;
 pub use window::{Ahead, MOST_AHEAD, Window};
-pub use writing::write_peer;
+pub use writing::{Admission, write_peer};

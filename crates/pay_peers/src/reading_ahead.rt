@@ -1,29 +1,33 @@
-//! How a node is fed from a peer's stream, frames of which are asked for ahead.
+//! How a node is fed from a peer's stream with several frames in flight.
 
 ghost use Rattle.std.specs.Prelude.{◌≡◌, ◌+◌, ◌<◌, ◌++◌, ◌^◌, OnOk};
-ghost use Rattle.pay_io.specs.Counts.{KeepsCounts, counts_of};
-ghost use Rattle.pay_engine.specs.EngineFault.{engine_of};
+ghost use Rattle.pay_frame.specs.Counts.{KeepsCounts, counts_of};
+ghost use Rattle.pay_frame.specs.EngineFault.{engine_of};
 ghost use Rattle.pay_link.specs.Keys.{IsPeer};
-ghost use Rattle.pay_peers.specs.Ahead.{HasFedAhead, feeding_ahead, next_told, wants};
+ghost use Rattle.pay_node.specs.Comparing.{HasStanding};
+ghost use Rattle.pay_node.specs.declared.comparing.Standing.TheVariants.{Free};
+ghost use Rattle.pay_peers.specs.Ahead.{HasFedAhead, LooksForLie, feeding_ahead, next_told};
+ghost use Rattle.pay_peers.specs.Ahead.{wants};
 ghost use Rattle.pay_peers.specs.Window.{first_count, first_window, row_of};
 
-use crate::context::NodeContext;
-use crate::peer_reader::PeerReader;
+use crate::feeding::PeerReader;
+use crate::readers::NodeContext;
 use crate::window::{Ahead, Asks, Window};
-use pay_engine::{EngineFault, FrameHandler, handle_stream};
-use pay_frame::{FrameFault, FrameRef, HEAD_LEN, TAG_LEN, stream_grows};
+use pay_frame::{
+    EngineFault, FrameFault, FrameHandler, FrameRef, HEAD_LEN, Input, Output, TAG_LEN,
+    handle_stream, stream_grows,
+};
 use pay_hmac::Tagger;
-use pay_io::{Input, Output};
 use pay_link::{Keys, LinkFault, want};
 use pay_member::Outcome;
 use pay_node::{Beginning, Gate};
 use std::alloc::{AllocError, Global};
 use std::sync::Wait;
 
-/// How many bytes of WANTs wait at most before another frame is brought: 64 of them.
+/// The most bytes of WANTs that wait before another frame is handled: those of 64 WANTs.
 pub(crate) const MOST_WAITING: usize = 64 * (HEAD_LEN + TAG_LEN);
 
-/// Brings the frames of a peer that are due, and asks for more.
+/// A handler that passes the expected frames of a peer to the node, and requests more.
 #[derive(Drop)]
 struct FromPeerAhead<'a, R, S: Beginning, T, G> {
     context: &'a NodeContext<'a, R, S, T>,
@@ -50,8 +54,8 @@ where
         waiting < MOST_WAITING
     }
 
-    // The connection ends with a frame that isn't due, or is of a peer that lied; neither is
-    // brought.
+    // The connection ends with a frame that isn't the expected one, or of a peer with a protocol
+    // violation. The node doesn't receive that frame.
     fn handle(
         &self,
         alloc: Global,
@@ -60,15 +64,10 @@ where
         out: &mut Vec<u8>,
     ) -> Result<bool, AllocError> {
         let number = frame.number();
-        if frame.from() != self.peer || number != asking.window.due {
+        if frame.from() != self.peer || number != asking.window.due || asking.lie.is_some() {
             return Ok(false);
         }
         let context = self.context;
-        if context.node.may_have_lied(self.peer)
-            && context.node.lie(context.rt, self.peer).is_some()
-        {
-            return Ok(false);
-        }
         let received = context.node.bring_frame(
             context.rt,
             alloc,
@@ -78,9 +77,13 @@ where
             frame,
         )?;
         match next_told(&received.outcome, number) {
-            None => Ok(true),
+            None => {
+                self.look_for_lie(alloc, asking)?;
+                Ok(true)
+            }
             Some(next) => {
                 let asks = asking.window.move_to(next, self.ahead);
+                self.look_for_lie(alloc, asking)?;
                 ask_for(context.tagger, context.node.keys(), self.peer, asks, out)?;
                 Ok(true)
             }
@@ -97,7 +100,27 @@ where
     }
 }
 
-// The number that is next behind a frame, by what came of it, if there is one.
+impl<R, S, T, G> FromPeerAhead<'_, R, S, T, G>
+where
+    R: Wait,
+    S: Beginning,
+{
+    // Looks for a protocol violation of the peer, if there may be one.
+    fn look_for_lie(&self, alloc: Global, asking: &mut PeerReader) -> Result<(), AllocError>
+        ensures window { asking.new.window ≡ asking.old.window }
+        ensures looked { LooksForLie self.now.context.now.node.now self.now.peer
+            asking.old.seat asking.old.lie asking.new }
+    {
+        let context = self.context;
+        if context.node.may_have_lied(self.peer) {
+            let seat = &mut asking.seat;
+            asking.lie = context.node.accuse(context.rt, alloc, seat, self.peer)?;
+        }
+        Ok(())
+    }
+}
+
+// Returns the number that is next after a frame, according to its outcome, if there is one.
 fn next_told(outcome: &Outcome, number: u64) -> Option<u64>
     ensures { result ≡ next_told outcome.now number }
 {
@@ -114,7 +137,7 @@ fn next_told(outcome: &Outcome, number: u64) -> Option<u64>
     }
 }
 
-// Writes the WANTs of some numbers in a row behind what stands there.
+// Appends the WANTs of consecutive numbers to `out`.
 fn ask_for<T: Tagger>(
     tagger: &T,
     keys: &Keys,
@@ -133,18 +156,18 @@ fn ask_for<T: Tagger>(
     Ok(())
 }
 
-// A frame that isn't due ends its connection before it is brought. So neither repeats nor gaps of a
-// liar grow the history, and a number whose frame was wrongly tagged is asked for again on the next
-// connection.
-/// Feeds a node from a peer's stream: asks for the frames that a connection begins with, brings
-/// each frame that is due, and asks for more, so that as many as `ahead` are asked for and under
-/// way.
+// An unexpected frame ends its connection before the node receives it. So neither repeats nor gaps
+// of a faulty member grow the history. The number of a frame that failed authentication is
+// requested again on the next connection.
+/// Feeds a node from the stream of `peer`. It requests the frames that a connection begins with. It
+/// passes each expected frame to the node and requests more, so that up to `ahead` frames are in
+/// flight. The node has no rollback check, or is free.
 ///
-/// A frame that isn't due ends it: one out of the order in which frames were asked for, or in the
-/// name of another member. So does the next one of a peer that is found to have lied. A fault in
-/// the frames ends it, and is returned. Where a read failed or no more may be made, all frames that
-/// were read were brought. After another fault a prefix of them was, and a prefix of their WANTs is
-/// written.
+/// An unexpected frame ends the loop: a frame out of the order of the requests, or in the name of
+/// another member. So does the next frame of a peer with a protocol violation. A fault in the
+/// frames ends the loop, and is returned. After a failed read, and at the read limit, the node has
+/// received all frames that were read. After another fault it has received a prefix of them, and a
+/// prefix of their WANTs is written.
 // promise: early ends (counts); asked ahead (fed); dials
 pub fn read_ahead<S, R, T, G, In, Out>(
     context: &NodeContext<'_, R, S, T>,
@@ -163,6 +186,7 @@ where
     In: Input,
     Out: Output,
     requires peer { IsPeer context.now.node.now.keys peer }
+    requires free { HasStanding context.now.node.now Free }
     requires begun { asking.old.window ≡ first_window ahead.count asking.old.window.due }
     ensures fed { HasFedAhead context.now.node.now peer ahead.count
         (record {
@@ -189,7 +213,7 @@ where
         peer,
         ahead,
     };
-    // a law that the proof stands on: the call does nothing
+    // for the proof, a law: the call does nothing
     stream_grows();
     let Window { due, asked } = asking.window;
     let asks = Asks {

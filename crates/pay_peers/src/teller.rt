@@ -1,18 +1,17 @@
-ghost use Rattle.std.specs.Prelude.{◌≡◌, false, IsTrue, Some};
-ghost use Rattle.pay_node.specs.Comparing.{FindsAll, FindsForgetting};
+ghost use Rattle.std.specs.Prelude.{◌≡◌};
 ghost use Rattle.pay_peers.specs.Telling.{TellerSays, values_told};
 
 use pay_desk::{ReadFault, Teller, TellerFault};
 use pay_durable::Keeper;
 use pay_frame::Bytes;
 use pay_member::{AskFault, QueryFault, Question, Told};
-use pay_node::{Beginning, HandInFault, Node, Seat};
+use pay_node::{Beginning, HandInFault, Node, OwnAnswer, Seat};
 use std::alloc::Global;
 use std::marker::Model;
 use std::sync::Wait;
 
-/// A node as a desk's teller, which calls it from a seat of its own. The node's keeper takes the id
-/// of each value before that is asked for.
+/// A node as a desk's teller, which calls it from a seat of its own. The node's durability gate
+/// notes the id of each value before the value is submitted.
 #[derive(Drop)]
 pub struct NodeTeller<'a, R, S: Beginning, K> {
     rt: &'a R,
@@ -31,8 +30,8 @@ impl<'a, R, S: Beginning, K> Model for NodeTeller<'a, R, S, K> {
 }
 
 impl<'a, R, S: Beginning, K> NodeTeller<'a, R, S, K> {
-    /// A teller that keeps the receipts of its calls at this seat of the node, whose member asked
-    /// for as many values as the number `next` says.
+    /// Creates a teller that keeps the receipts of its calls at `seat`. The node's member submitted
+    /// `next` values before.
     // promise: ids
     pub fn new(
         rt: &'a R,
@@ -52,28 +51,11 @@ impl<'a, R, S: Beginning, K> NodeTeller<'a, R, S, K> {
         }
     }
 
-    /// The seat with all its receipts, for the node's closing.
+    /// Returns the seat with all its receipts, for the node's shutdown check.
     pub fn into_seat(self) -> Seat
         ensures { result ≡ self.entry.seat }
     {
         self.seat
-    }
-}
-
-impl<R, S, K> NodeTeller<'_, R, S, K>
-where
-    R: Wait,
-    S: Beginning,
-{
-    // Whether what was read about an account is told. Of the own one nothing is, once the member
-    // has forgotten, which is looked at behind the reading.
-    fn may_tell(&self, account: Option<u16>) -> bool
-        ensures own { result ≡ false → account ≡ Some self.now.node.keys.own }
-        ensures found { result ≡ false → FindsForgetting self.now.node }
-        ensures remembers { IsTrue result → account ≡ Some self.now.node.keys.own
-            → FindsAll self.now.node }
-    {
-        account != Some(self.node.keys().own()) || !self.node.has_forgotten(self.rt)
     }
 }
 
@@ -99,7 +81,7 @@ where
             Err(HandInFault::Forgotten) => Err(TellerFault::Forgotten),
             Err(HandInFault::Ask(AskFault::Spent)) => Err(TellerFault::Spent),
             Err(HandInFault::Ask(AskFault::Memory)) => Err(TellerFault::Memory),
-            // the value is short enough, by what the call requires
+            // the call requires that the value is short enough
             Err(HandInFault::Ask(AskFault::TooLong)) => unreachable!(),
         }
     }
@@ -109,11 +91,16 @@ where
     }
 
     fn read<Q: Question>(&mut self, alloc: Global, question: Q) -> Result<Q::Answer, ReadFault> {
-        let answer = self.node.read(self.rt, alloc, &mut self.seat, question)?;
-        if !self.may_tell(question.account_told()) {
-            return Err(ReadFault::Forgotten);
+        if question.account_told() != Some(self.node.keys().own()) {
+            return Ok(self.node.read(self.rt, alloc, &mut self.seat, question)?);
         }
-        Ok(answer)
+        let answer = self
+            .node
+            .read_own(self.rt, alloc, &mut self.seat, question)?;
+        match answer {
+            OwnAnswer::Told(answer) => Ok(answer),
+            OwnAnswer::Withheld(_) => Err(ReadFault::Forgotten),
+        }
     }
 
     ghost use Rattle.pay_peers.specs.SeatAsks.{seat_asks};

@@ -2,27 +2,27 @@ ghost use Rattle.std.specs.Prelude.{◌≡◌, ◌+◌, ◌<◌, ◌≤◌, ◌^
 ghost use Rattle.pay_peers.specs.Window.{CanAskAhead, count_behind, first_count, first_window};
 ghost use Rattle.pay_peers.specs.Window.{from_behind, moved_window, empty_window};
 
-/// How many frames may be asked for and not come yet, at most.
+/// The greatest pipelining depth: the most frames of a peer that may be in flight.
 ///
-/// So many WANTs, of 56 bytes each, may be on their way while who is asked waits, or writes to who
-/// asks: a window of 1,024 has 57,344 bytes of them. Where the two sockets hold less between them,
-/// whoever asks waits in a write, and so reads nothing; who answers may then wait to write. A
-/// writer of WANTs therefore has to give up a write that takes too long, as a node's does: its next
-/// connection begins with a small window, and what came before it stays.
+/// That many WANTs, of 56 bytes each, may be under way while the peer waits, or writes to this
+/// node. A window of 1,024 has 57,344 bytes of them. If the two sockets hold less between them, the
+/// requesting side waits in a write, and so reads nothing. The answering side may then wait to
+/// write. A writer of WANTs therefore has to abandon a write that takes too long, as a node's
+/// writer does. Its next connection begins with a small window, and what came before stays.
 pub const MOST_AHEAD: u64 = 1_024;
 
-/// How many, where nobody says: 14,336 bytes of WANTs, which the send buffer alone holds that Linux
+/// The usual pipelining depth: 14,336 bytes of WANTs, which fit into the send buffer that Linux
 /// gives a connection.
 const USUAL_AHEAD: u64 = 256;
 
-/// How many are asked for as a connection begins: as many as a member says about one payment, and
-/// one more.
+/// The count of frames that are requested when a connection begins: as many as a member sends about
+/// one payment, and one more.
 const FIRST_AHEAD: u64 = 4;
 
-/// How many WANTs an answer brings at most, so that a window opens by one a frame.
+/// The most WANTs that an answer leads to, so that a window opens by one with each frame.
 const MOST_WANTS: u64 = 2;
 
-/// How many frames of a peer may be asked for and not come yet: from 1 to [`MOST_AHEAD`].
+/// A pipelining depth: how many frames of a peer may be in flight, from 1 to [`MOST_AHEAD`].
 #[derive(Clone, Copy, Debug, PartialEq, Eq)]
 pub struct Ahead {
     pub count: u64,
@@ -30,7 +30,7 @@ pub struct Ahead {
 }
 
 impl Ahead {
-    /// So many, if that many may be.
+    /// Creates a pipelining depth of `count` frames, if that is allowed.
     pub fn new(count: u64) -> Option<Ahead>
         ensures some { IfSome result (λ ahead. (ahead.count ≡ count) × CanAskAhead count) }
         ensures none { IfNone result (¬ (CanAskAhead count)) }
@@ -42,7 +42,7 @@ impl Ahead {
         }
     }
 
-    /// As many as are usual.
+    /// Returns the usual pipelining depth.
     pub fn usual() -> Ahead
         ensures { result.count ≡ 256 }
     {
@@ -50,22 +50,21 @@ impl Ahead {
     }
 }
 
-// A connection begins with four frames asked for, and its window opens by one with each that comes.
-// If connections live for a few frames only, a whole window would be lost each time. Up to 1,024
-// may be asked for, whose WANTs have 57,344 bytes. If the sockets hold less, both sides could wait
-// to write, so a write of WANTs is given up after a second.
-// term: window: the frames of a peer that were asked for on a connection and haven't come
-/// Which frames of a peer are asked for on a connection and didn't come yet: those from the one
-/// that is due on, before the next one to ask for.
+// A connection begins with requests for four frames, and its window opens by one with each frame.
+// If connections lasted for a few frames only, a whole window would be lost each time. Up to 1,024
+// frames may be in flight, and their WANTs have 57,344 bytes. If the sockets hold less, both sides
+// could wait to write, so a write of WANTs is abandoned after a second.
+/// The frames of a peer that are in flight on a connection: those from the expected one on, before
+/// the next one to request.
 #[derive(Clone, Copy, Debug, PartialEq, Eq)]
 pub struct Window {
-    /// The number of the frame that comes next.
+    /// The number of the expected frame.
     pub due: u64,
-    /// The least number that wasn't asked for yet.
+    /// The least number that wasn't requested yet.
     pub asked: u64,
 }
 
-/// The numbers that are asked for behind an answer: so many, from one on.
+/// The numbers that are requested after an answer: `count` of them, from `from` on.
 #[derive(Clone, Copy, Debug, PartialEq, Eq)]
 pub(crate) struct Asks {
     pub(crate) from: u64,
@@ -73,15 +72,15 @@ pub(crate) struct Asks {
 }
 
 impl Window {
-    /// Nothing was asked for.
+    /// Creates a window without requests.
     pub fn new() -> Window
         ensures { result ≡ empty_window }
     {
         Window { due: 0, asked: 0 }
     }
 
-    /// The frames from a number on were asked for, as many as a connection begins with, if there
-    /// are so many numbers.
+    /// Creates the window of a new connection: the frames from `from` on are requested, as many as
+    /// a connection begins with. Returns `None` if there aren't that many numbers.
     pub fn first(ahead: Ahead, from: u64) -> Option<Window>
         ensures some { IfSome result (λ window. window ≡ first_window ahead.count from) }
         ensures none { IfNone result (2 ^ 64 ≤ from + first_count ahead.count) }
@@ -90,8 +89,8 @@ impl Window {
         Some(Window { due: from, asked })
     }
 
-    /// Moves behind the frame that was due, where the one that is next is told. Returns what is to
-    /// be asked for then.
+    /// Advances past the expected frame. `next` is the number that the member expects now. Returns
+    /// the numbers to request then.
     pub(crate) fn move_to(&mut self, next: u64, ahead: Ahead) -> Asks
         ensures moved { self.new ≡ moved_window ahead.count self.old next }
         ensures from { result.from ≡ from_behind self.old next }

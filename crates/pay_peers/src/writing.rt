@@ -1,36 +1,47 @@
-//! How a peer's WANTs are answered on one connection.
+//! How a peer's WANTs are answered on a connection.
 
 ghost use Rattle.std.specs.Prelude.{◌↔◌, IsTrue};
-ghost use Rattle.pay_io.specs.Counts.{KeepsCounts, counts_of};
-ghost use Rattle.pay_engine.specs.EngineFault.{engine_of};
+ghost use Rattle.pay_frame.specs.Counts.{KeepsCounts, counts_of};
+ghost use Rattle.pay_frame.specs.EngineFault.{engine_of};
 ghost use Rattle.pay_frame.specs.Lent.{fields_of};
 ghost use Rattle.pay_peers.specs.Answering.{HasAnswered, NeedsNoWait, answering};
 
-use crate::admission::Admission;
-use crate::answering::answer_want;
-use crate::context::NodeContext;
-use crate::wanted::{Wanted, open_want};
-use pay_engine::{EngineFault, FrameHandler, handle_stream};
-use pay_frame::{FrameFault, FrameRef, Kind};
+use crate::answering::{Wanted, answer_challenge, answer_want, open_want};
+use crate::readers::NodeContext;
+use pay_frame::{
+    EngineFault, FrameFault, FrameHandler, FrameRef, Input, Kind, Output, handle_stream,
+};
 use pay_hmac::Tagger;
-use pay_io::{Input, Output};
+use pay_link::{Asked, asked_by};
 use pay_node::{Beginning, FetchSeat};
 use std::alloc::{AllocError, Global};
 use std::sync::atomic::{AtomicBool, AtomicU64, Ordering};
 use std::sync::{Mutex, Wait};
 
-/// How many bytes of replies wait at most before another frame is answered.
+/// The decision whether a connection continues as its WANTs are authenticated. It is also told of a
+/// frame that ends the connection.
+pub trait Admission {
+    /// Notes that a WANT of `peer` requests a place above all earlier requests on the connection,
+    /// or the first one. Returns whether the connection continues.
+    fn admit<R: Wait>(&self, rt: &R, peer: u16, number: u64) -> bool;
+
+    /// Notes that a frame in the name of `peer` failed authentication: its tag isn't the one under
+    /// the shared key.
+    fn mistrust(&self, peer: u16);
+}
+
+/// The most bytes of replies that wait before another frame is answered.
 const MOST_WAITING: usize = 64 << 10;
 
-/// Writes the frame that each WANT asks for, once the connection is admitted as that of the sender
-/// of the first.
+/// A handler that writes what each WANT requests: a claim, or a frame after the connection was
+/// admitted as its sender's.
 #[derive(Drop)]
 struct ToPeer<'a, R, S: Beginning, T, A> {
     context: &'a NodeContext<'a, R, S, T>,
     seats: &'a [(u16, Mutex<FetchSeat>)],
     stop: &'a AtomicBool,
     admission: &'a A,
-    // one more than the greatest number that was asked for, and 0 before the first WANT
+    // one more than the greatest requested place, and 0 before the first
     asked: AtomicU64,
 }
 
@@ -55,8 +66,8 @@ where
             && needs_no_wait(frame, self.context.node.sent_len())
     }
 
-    // Writes the reply to a frame that asks for one. The connection ends at a frame with a wrong
-    // tag, where it may not go on, and where there is no reply, which comes of being told to stop.
+    // Writes the reply to a frame, if it requests one. The connection ends at a frame with a wrong
+    // tag, if it may not continue, and if there is no reply because the node stops.
     fn handle(
         &self,
         _alloc: Global,
@@ -73,6 +84,14 @@ where
                 return Ok(false);
             }
         };
+        match asked_by(wanted.number) {
+            Asked::Place(_) => {}
+            Asked::Challenge(nonce) => {
+                out.extend_from_slice(&answer_challenge(context, wanted.seated.0, nonce))?;
+                return Ok(true);
+            }
+            Asked::Nothing => return Ok(true),
+        }
         if !self.goes_on(&wanted) {
             return Ok(false);
         }
@@ -92,48 +111,45 @@ where
 }
 
 impl<R: Wait, S: Beginning, T, A: Admission> ToPeer<'_, R, S, T, A> {
-    // Whether the connection goes on, which is asked at its first WANT, and at each that asks for a
-    // greater number than those before it. The first says how far its sender has got.
+    // Returns whether the connection continues. This is decided at the first requested place, and
+    // at each place above the earlier ones.
     fn goes_on(&self, wanted: &Wanted<'_>) -> bool {
         let asked = wanted.number.saturating_add(1);
-        // one thread alone answers a connection
-        let before = self.asked.load(Ordering::SeqCst);
-        if asked <= before {
+        // only one thread answers a connection
+        if asked <= self.asked.load(Ordering::SeqCst) {
             return true;
         }
         self.asked.store(asked, Ordering::SeqCst);
-        let NodeContext { rt, node, .. } = *self.context;
-        let peer = wanted.seated.0;
-        if before > 0 {
-            return self.admission.advance(rt, peer, wanted.number);
-        }
-        node.hear(rt, peer, wanted.number);
-        self.admission.admit(rt, peer, wanted.number)
+        self.admission
+            .admit(self.context.rt, wanted.seated.0, wanted.number)
     }
 }
 
-// Whether a frame is answered without a wait by whoever sent so many frames.
+// Returns whether a member that sent `sent` frames answers `frame` without a wait.
 // promise: answered WANTs
 fn needs_no_wait(frame: &FrameRef<'_>, sent: u64) -> bool
     ensures { IsTrue result ↔ NeedsNoWait sent (fields_of frame.now) }
 {
-    frame.kind() != Kind::Want || frame.number() < sent
+    frame.kind() != Kind::Want
+        || frame.number() < sent
+        || !matches!(asked_by(frame.number()), Asked::Place(_))
 }
 
-// A seat that connections share is locked inside the node's lock, once the body is sent, so a
-// connection that waits holds no other up.
+// A seat that connections share is locked inside the node's lock, after the body is sent, so a
+// connection that waits delays no other.
 //
-// An inbound connection ends at its first wrong tag, which no correct peer sends: else whoever has
-// no key has tags computed as fast as bytes come.
-/// Answers a peer's WANTs on one connection: reads frames, and writes the frame that each WANT asks
-/// for, once the member sent it.
+// An inbound connection ends at its first wrong tag, which no correct peer sends. Otherwise anybody
+// without a key could have tags computed as fast as bytes come.
+/// Answers a peer's WANTs on a connection. It reads frames, and writes the frame that each WANT
+/// requests, after the member sent it. A claim on a challenge is written at once.
 ///
-/// The connection ends at a frame whose tag is another than the key of the two gives. Any other
-/// that doesn't open, is no WANT, or is one of a sender without a seat, is answered by nothing, and
-/// the connection goes on. At the first other WANT it is admitted as its sender's, or ends; so at
-/// each that asks for a greater number than those before it. It ends well at the input's end, and
-/// behind a WANT that waits as it is told to stop. A fault in the frames ends it, and is returned.
-/// After another fault a prefix of the replies is written.
+/// The connection ends at a frame with a tag that isn't the one under the shared key. Some frames
+/// are passed over without an answer: other frames that fail authentication, are no WANT, request
+/// nothing, or come from a sender that has no seat in `seats`. At the first WANT for a place
+/// `admission` admits the connection as its sender's, or ends it. The decision is repeated at each
+/// WANT for a higher place. The connection ends well at the input's end, and at a WANT that waits
+/// when `stop` is set. A fault in the frames ends it, and is returned. After another fault a prefix
+/// of the replies is written.
 // promise: early ends (counts); answered WANTs (answered)
 pub fn write_peer<S, R, T, A, In, Out>(
     context: &NodeContext<'_, R, S, T>,

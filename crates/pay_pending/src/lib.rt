@@ -1,4 +1,4 @@
-//! A book that settles by a worklist: it looks only at the accounts whose next entry may now be
+//! A ledger that settles by a worklist. It looks only at accounts with a next entry that may now be
 //! covered.
 //!
 //! ```

@@ -1,19 +1,20 @@
-//! The book and its list of accounts to look at.
+//! The ledger and its list of accounts to look at.
 
 ghost use Rattle.std.specs.Prelude.{◌≡◌, ◌+◌, ◌<◌, ◌≤◌, ℕ, length, vec_capacity, Contains};
 ghost use Rattle.pay_book.specs.Balance.{PayWithin};
 ghost use Rattle.pay_pending.specs.Waiting.{IsWaitingList, KeepsWaiting, IsPaid};
 
-use pay_book::step_laws::{settled_are_listed, stuck_book_is_settled, what_a_step_does};
+use pay_book::laws::{settled_are_listed, stuck_book_is_settled, what_a_step_does};
 use pay_book::{Accounts, Entry, Settle};
 use pay_channel::Source;
 use pay_link::Genesis;
 use std::alloc::{AllocError, Global};
 
-/// A book that settles from a list of the accounts whose next entry may now be covered, each at
-/// most once. The list has room for all of them, so that settling takes no memory.
+/// A ledger that settles from a list of the accounts with a next entry that may now be covered.
+/// Each account is on the list at most once. The list has room for all of them, so that settling
+/// allocates nothing.
 ///
-/// It is used as a stack: the order makes no difference.
+/// The list is used as a stack: the order makes no difference.
 #[derive(Debug, Drop)]
 pub struct WaitingBook {
     accounts: Accounts,
@@ -22,7 +23,7 @@ pub struct WaitingBook {
 }
 
 impl WaitingBook {
-    /// Puts an account on the list, where it isn't there already.
+    /// Puts `account` on the list, if it isn't there already.
     fn put(&mut self, account: u16)
         requires account { account < length self.old.accounts.opening }
         requires list { IsWaitingList (length self.old.accounts.opening) self.old.waiting.items }
@@ -38,7 +39,7 @@ impl WaitingBook {
         }
     }
 
-    /// Puts an account on the list that settled this entry, and the one that it paid.
+    /// Puts `account`, which settled `entry`, on the list, and the account that the entry paid.
     fn wake(&mut self, account: u16, entry: Entry)
         requires account { account < length self.old.accounts.opening }
         requires payee { PayWithin (length self.old.accounts.opening) entry }

@@ -14,11 +14,11 @@ use Rattle.pay_member.specs.declared.event.Event.{Event}
 use Rattle.pay_member.specs.declared.event.Event.TheVariants.{Ask, Taken, Query}
 use Rattle.pay_member.specs.declared.fault.MemberFault.{MemberFault}
 use Rattle.pay_member.specs.declared.fault.MemberFault.TheVariants.{WrongKey}
-use Rattle.pay_member.specs.declared.reply.Reply.{Reply}
+use Rattle.pay_member.specs.declared.event.Reply.{Reply}
 use Rattle.pay_member.specs.Legal.{IsStorable}
 use Rattle.pay_member.specs.Refusal.{is_for_member, refusal, turn_refusal}
 use Rattle.pay_member.specs.Reply.{reply_to}
-use Rattle.pay_record.specs.Loggable.{FitsEvent, FitsForm, FitsReply, FitsRecord, IsIdOf, IsNumbered}
+use Rattle.pay_record.specs.Loggable.{FitsEvent, FitsReply, FitsRecord, IsIdOf, IsNumbered}
 
 pub unrefused : (g : GenesisFields) (k : KeyFields) (before : List channel.Event) (e : Event) → refusal g k before e ≡ None → FitsRecord e
 unrefused g k before (Ask v) none = grind (arith, nat_tests, none)
@@ -65,8 +65,3 @@ fits_reply g own before (Taken c) id reply is numbered id_is =
 fits_reply g own before (Query a) id reply is numbered id_is =
     let n = subst (λ (r : Reply). IsNumbered r) is numbered in
     subst (λ (r : Reply). FitsReply (Query a) id r) (sym is) (id_is, n.0, n.1, n.2)
-
-pub fits_form : (e : Event) → FitsForm e false
-fits_form (Ask v) = refl
-fits_form (Taken c) = tt
-fits_form (Query a) = refl

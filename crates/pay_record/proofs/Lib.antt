@@ -2,9 +2,9 @@ pub mod Grown
 pub mod Fronts
 pub mod Inside
 pub mod Stands
-pub mod Opened
-pub mod Compact
+pub mod Frames
 pub mod OneRecord
 pub mod Sizes
 pub mod Legal
 pub mod TakenOn
+pub mod Starting

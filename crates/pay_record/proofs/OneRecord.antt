@@ -1,39 +1,34 @@
 -- One record at most stands at the front of bytes.
-use Rattle.std.proofs.Common.{◌≡◌, ℕ, suc, ◌^◌, ◌<◌, ◌≤◌, Bool, true, false, List, [], ◌∷◌, ◌++◌, length, length-append, get_or, take, drop, refl, sym, ap, ◌∙◌, arith}
+use Rattle.std.proofs.Common.{◌≡◌, ℕ, suc, ◌^◌, ◌<◌, ◌≤◌, Bool, List, [], ◌∷◌, ◌++◌, length, length-append, get_or, take, drop, refl, sym, ap, ◌∙◌, arith}
 use Rattle.std.specs.List.{All, flat_map}
 use Rattle.std.specs.Int.{w16, w32, w64, to_be_bytes}
 use Rattle.std.proofs.lemmas.List.{take_at, drop_at}
-use Rattle.pay_frame.specs.Frame.{FrameFields}
 use Rattle.pay_frame.specs.declared.limits.TheConstants.{GREATEST_VALUE}
 use Rattle.pay_link.specs.Checked.{CheckedFields}
-use Rattle.pay_link.specs.Keys.{KeyFields, key_for}
+use Rattle.pay_link.specs.Keys.{KeyFields}
 use Rattle.pay_member.specs.declared.event.Event.{Event}
 use Rattle.pay_member.specs.declared.event.Event.TheVariants.{Ask, Taken, Query}
-use Rattle.pay_member.specs.declared.reply.Reply.{Reply}
-use Rattle.pay_member.specs.declared.reply.Reply.TheVariants as reply
-use Rattle.pay_member.specs.declared.told.Told.{Told}
-use Rattle.pay_member.specs.declared.took.Took.{Took}
-use Rattle.pay_record.specs.Resuming.{LoggedFields}
-use Rattle.pay_record.specs.Records.{frame_part, kind_code, record_fields, record_of}
-use Rattle.pay_record.specs.Loggable.{FitsEvent, FitsForm, FitsReply, IsLoggable, StandsIn}
-use Rattle.pay_record.proofs.Compact.{checked_by_parts, same_compact}
+use Rattle.pay_member.specs.declared.event.Reply.{Reply}
+use Rattle.pay_member.specs.declared.event.Reply.TheVariants as reply
+use Rattle.pay_member.specs.declared.event.Told.{Told}
+use Rattle.pay_member.specs.declared.event.Took.{Took}
+use Rattle.pay_record.specs.Records.{LoggedFields, frame_part, kind_code, record_fields, record_of}
+use Rattle.pay_record.specs.Loggable.{FitsEvent, FitsReply, IsLoggable, StandsIn}
+use Rattle.pay_record.proofs.Frames.{same_frame_parts}
 use Rattle.pay_record.proofs.Fronts.{bits_same, eight_same, four_same, two_same}
-use Rattle.pay_record.proofs.Inside.{not_one, not_three, same_form}
-use Rattle.pay_record.proofs.Opened.{OneFront}
 use Rattle.pay_record.proofs.Stands.{some_bytes}
 
 -- two entries' fields, and what stands after them, are the same
-record Same (e other : Event) (i j : ℕ) (w v : Bool) (r o : Reply) (x y : List ℕ) : Type 0 where
+record Same (e other : Event) (i j : ℕ) (r o : Reply) (x y : List ℕ) : Type 0 where
   event : e ≡ other
   id : i ≡ j
-  whole : w ≡ v
   reply : r ≡ o
   rest : x ≡ y
 
 same_asks :
     (i j s t : ℕ) (v w rest more : List ℕ) → i < 2 ^ 64 → j < 2 ^ 64 → s < 2 ^ 32 → t < 2 ^ 32 → length v ≤ GREATEST_VALUE → length w ≤ GREATEST_VALUE
-    → record_fields (Ask v) i false (reply.Asked s) ++ rest ≡ record_fields (Ask w) j false (reply.Asked t) ++ more
-    → Same (Ask v) (Ask w) i j false false (reply.Asked s) (reply.Asked t) rest more
+    → record_fields (Ask v) i (reply.Asked s) ++ rest ≡ record_fields (Ask w) j (reply.Asked t) ++ more
+    → Same (Ask v) (Ask w) i j (reply.Asked s) (reply.Asked t) rest more
 same_asks i j s t v w rest more small_i small_j small_s small_t short_v short_w is =
     let behind_id : to_be_bytes w32 s ++ (to_be_bytes w16 (length v) ++ (v ++ rest)) ≡ to_be_bytes w32 t ++ (to_be_bytes w16 (length w) ++ (w ++ more)) =
     ap (λ (l : List ℕ). drop 8 l) is in
@@ -46,7 +41,6 @@ same_asks i j s t v w rest more small_i small_j small_s small_t short_v short_w 
     record {
       event = ap (λ (l : List ℕ). Ask l) same;
       id = eight_same i j (to_be_bytes w32 s ++ (to_be_bytes w16 (length v) ++ (v ++ rest))) (to_be_bytes w32 t ++ (to_be_bytes w16 (length w) ++ (w ++ more))) small_i small_j is;
-      whole = refl;
       reply = ap reply.Asked (four_same s t (to_be_bytes w16 (length v) ++ (v ++ rest)) (to_be_bytes w16 (length w) ++ (w ++ more)) small_s small_t behind_id);
       rest = sym (drop_at v rest (length v) refl) ∙ ap (λ (l : List ℕ). drop (length v) l) values ∙ drop_at w more (length v) (sym long);
     }
@@ -59,31 +53,20 @@ took_by_parts t u echo ready deliver settled =
     let D : ℕ → Took = λ n. record { echo = u.echo; ready = u.ready; deliver = u.deliver; settled = n } in
     ap A echo ∙ ap B ready ∙ ap C deliver ∙ ap D settled
 
-same_parts :
-    OneFront → (k : KeyFields) (w : Bool) (c d : CheckedFields) (rest more : List ℕ) → FitsEvent k (Taken c) → FitsEvent k (Taken d)
-    → frame_part w c.frame ++ rest ≡ frame_part w d.frame ++ more → (c ≡ d) × (rest ≡ more)
-same_parts law k true c d rest more mine others is =
-    let frames = law c.frame d.frame rest more mine.0.frame others.0.frame is in (
-      checked_by_parts c d frames.0 (mine.1.key ∙ ap (λ (f : FrameFields). key_for k f.from) frames.0 ∙ sym others.1.key),
-      frames.1,
-    )
-same_parts law k false c d rest more mine others is = same_compact k c d rest more mine others is
-
 same_frames :
-    OneFront → (k : KeyFields) (i j : ℕ) (w : Bool) (c d : CheckedFields) (t u : Took) (rest more : List ℕ) → FitsEvent k (Taken c) → FitsEvent k (Taken d)
+    (k : KeyFields) (i j : ℕ) (c d : CheckedFields) (t u : Took) (rest more : List ℕ) → FitsEvent k (Taken c) → FitsEvent k (Taken d)
     → FitsReply (Taken c) i (reply.Took t) → FitsReply (Taken d) j (reply.Took u)
-    → record_fields (Taken c) i w (reply.Took t) ++ rest ≡ record_fields (Taken d) j w (reply.Took u) ++ more
-    → Same (Taken c) (Taken d) i j w w (reply.Took t) (reply.Took u) rest more
-same_frames law k i j w c d t u rest more mine others fits fit is =
+    → record_fields (Taken c) i (reply.Took t) ++ rest ≡ record_fields (Taken d) j (reply.Took u) ++ more
+    → Same (Taken c) (Taken d) i j (reply.Took t) (reply.Took u) rest more
+same_frames k i j c d t u rest more mine others fits fit is =
     let known = bits_same t.echo t.ready t.deliver u.echo u.ready u.deliver (ap (λ (l : List ℕ). get_or l 0 0) is) in
-    let behind_bits : to_be_bytes w32 t.settled ++ (frame_part w c.frame ++ rest) ≡ to_be_bytes w32 u.settled ++ (frame_part w d.frame ++ more) =
+    let behind_bits : to_be_bytes w32 t.settled ++ (frame_part c.frame ++ rest) ≡ to_be_bytes w32 u.settled ++ (frame_part d.frame ++ more) =
     ap (λ (l : List ℕ). drop 1 l) is in
-    let settled = four_same t.settled u.settled (frame_part w c.frame ++ rest) (frame_part w d.frame ++ more) fits.1 fit.1 behind_bits in
-    let frames = same_parts law k w c d rest more mine others (ap (λ (l : List ℕ). drop 4 l) behind_bits) in
+    let settled = four_same t.settled u.settled (frame_part c.frame ++ rest) (frame_part d.frame ++ more) fits.1 fit.1 behind_bits in
+    let frames = same_frame_parts k c d rest more mine others (ap (λ (l : List ℕ). drop 4 l) behind_bits) in
     record {
       event = ap (λ (x : CheckedFields). Taken x) frames.0;
       id = fits.0 ∙ sym fit.0;
-      whole = refl;
       reply = ap (λ (x : Took). reply.Took x) (took_by_parts t u known.0 known.1 known.2 settled);
       rest = frames.1;
     }
@@ -97,8 +80,8 @@ told_by_parts t u balance front listed =
 
 same_queries :
     (i j a b : ℕ) (t u : Told) (rest more : List ℕ) → a < 2 ^ 16 → b < 2 ^ 16 → FitsReply (Query a) i (reply.Told t) → FitsReply (Query b) j (reply.Told u)
-    → record_fields (Query a) i false (reply.Told t) ++ rest ≡ record_fields (Query b) j false (reply.Told u) ++ more
-    → Same (Query a) (Query b) i j false false (reply.Told t) (reply.Told u) rest more
+    → record_fields (Query a) i (reply.Told t) ++ rest ≡ record_fields (Query b) j (reply.Told u) ++ more
+    → Same (Query a) (Query b) i j (reply.Told t) (reply.Told u) rest more
 same_queries i j a b t u rest more small_a small_b fits fit is =
     let told : to_be_bytes w64 t.balance ++ (to_be_bytes w32 t.front ++ (to_be_bytes w32 t.listed ++ rest))
     ≡ to_be_bytes w64 u.balance ++ (to_be_bytes w32 u.front ++ (to_be_bytes w32 u.listed ++ more)) = ap (λ (l : List ℕ). drop 2 l) is in
@@ -109,7 +92,6 @@ same_queries i j a b t u rest more small_a small_b fits fit is =
       event = ap Query (two_same a b (to_be_bytes w64 t.balance ++ (to_be_bytes w32 t.front ++ (to_be_bytes w32 t.listed ++ rest)))
           (to_be_bytes w64 u.balance ++ (to_be_bytes w32 u.front ++ (to_be_bytes w32 u.listed ++ more))) small_a small_b is);
       id = fits.0 ∙ sym fit.0;
-      whole = refl;
       reply = ap (λ (x : Told). reply.Told x) (told_by_parts t u
           (eight_same t.balance u.balance (to_be_bytes w32 t.front ++ (to_be_bytes w32 t.listed ++ rest)) (to_be_bytes w32 u.front ++ (to_be_bytes w32 u.listed ++ more)) fits.1 fit.1 told)
           (four_same t.front u.front (to_be_bytes w32 t.listed ++ rest) (to_be_bytes w32 u.listed ++ more) fits.2 fit.2 fronts)
@@ -117,77 +99,56 @@ same_queries i j a b t u rest more small_a small_b fits fit is =
       rest = ap (λ (l : List ℕ). drop 4 l) lists;
     }
 
--- the same code, and each a form that its event has
-same_whole : (e other : Event) (w v : Bool) → FitsForm e w → FitsForm other v → kind_code e w ≡ kind_code other v → w ≡ v
-same_whole (Ask v) (Ask o) w x form its code = form ∙ sym its
-same_whole (Ask v) (Taken d) w x form its code = absurd (not_one x (sym code))
-same_whole (Ask v) (Query b) w x form its code = absurd (omega (arith, code))
-same_whole (Taken c) (Ask o) w x form its code = absurd (not_one w code)
-same_whole (Taken c) (Taken d) w x form its code = same_form w x code
-same_whole (Taken c) (Query b) w x form its code = absurd (not_three w code)
-same_whole (Query a) (Ask o) w x form its code = absurd (omega (arith, code))
-same_whole (Query a) (Taken d) w x form its code = absurd (not_three x (sym code))
-same_whole (Query a) (Query b) w x form its code = form ∙ sym its
-
 same_fields :
-    OneFront → (k : KeyFields) (e other : Event) (i j : ℕ) (w : Bool) (r o : Reply) (rest more : List ℕ) → FitsEvent k e → FitsEvent k other → FitsReply e i r → FitsReply other j o
-    → kind_code e w ≡ kind_code other w → record_fields e i w r ++ rest ≡ record_fields other j w o ++ more → Same e other i j w w r o rest more
-same_fields law k (Ask v) (Ask x) i j w (reply.Asked s) (reply.Asked t) rest more room rooms fits fit code is =
-    let same = same_asks i j s t v x rest more fits.0 fit.0 fits.1 fit.1 room rooms is in
-    record { event = same.event; id = same.id; whole = refl; reply = same.reply; rest = same.rest }
-same_fields law k (Ask v) (Ask x) i j w (reply.Asked s) (reply.Took t) rest more room rooms fits fit code is = absurd fit
-same_fields law k (Ask v) (Ask x) i j w (reply.Asked s) (reply.Told t) rest more room rooms fits fit code is = absurd fit
-same_fields law k (Ask v) (Ask x) i j w (reply.Took s) o rest more room rooms fits fit code is = absurd fits
-same_fields law k (Ask v) (Ask x) i j w (reply.Told s) o rest more room rooms fits fit code is = absurd fits
-same_fields law k (Ask v) (Taken d) i j w r o rest more room rooms fits fit code is = absurd (not_one w (sym code))
-same_fields law k (Ask v) (Query b) i j w r o rest more room rooms fits fit code is = absurd (omega (arith, code))
-same_fields law k (Taken c) (Ask x) i j w r o rest more room rooms fits fit code is = absurd (not_one w code)
-same_fields law k (Taken c) (Taken d) i j w (reply.Took t) (reply.Took u) rest more room rooms fits fit code is =
-    same_frames law k i j w c d t u rest more room rooms fits fit is
-same_fields law k (Taken c) (Taken d) i j w (reply.Took t) (reply.Asked u) rest more room rooms fits fit code is = absurd fit
-same_fields law k (Taken c) (Taken d) i j w (reply.Took t) (reply.Told u) rest more room rooms fits fit code is = absurd fit
-same_fields law k (Taken c) (Taken d) i j w (reply.Asked t) o rest more room rooms fits fit code is = absurd fits
-same_fields law k (Taken c) (Taken d) i j w (reply.Told t) o rest more room rooms fits fit code is = absurd fits
-same_fields law k (Taken c) (Query b) i j w r o rest more room rooms fits fit code is = absurd (not_three w code)
-same_fields law k (Query a) (Ask x) i j w r o rest more room rooms fits fit code is = absurd (omega (arith, code))
-same_fields law k (Query a) (Taken d) i j w r o rest more room rooms fits fit code is = absurd (not_three w (sym code))
-same_fields law k (Query a) (Query b) i j w (reply.Told t) (reply.Told u) rest more room rooms fits fit code is =
-    let same = same_queries i j a b t u rest more room rooms fits fit is in
-    record { event = same.event; id = same.id; whole = refl; reply = same.reply; rest = same.rest }
-same_fields law k (Query a) (Query b) i j w (reply.Told t) (reply.Asked u) rest more room rooms fits fit code is = absurd fit
-same_fields law k (Query a) (Query b) i j w (reply.Told t) (reply.Took u) rest more room rooms fits fit code is = absurd fit
-same_fields law k (Query a) (Query b) i j w (reply.Asked t) o rest more room rooms fits fit code is = absurd fits
-same_fields law k (Query a) (Query b) i j w (reply.Took t) o rest more room rooms fits fit code is = absurd fits
+    (k : KeyFields) (e other : Event) (i j : ℕ) (r o : Reply) (rest more : List ℕ) → FitsEvent k e → FitsEvent k other → FitsReply e i r → FitsReply other j o
+    → kind_code e ≡ kind_code other → record_fields e i r ++ rest ≡ record_fields other j o ++ more → Same e other i j r o rest more
+same_fields k (Ask v) (Ask x) i j (reply.Asked s) (reply.Asked t) rest more room rooms fits fit code is = same_asks i j s t v x rest more fits.0 fit.0 fits.1 fit.1 room rooms is
+same_fields k (Ask v) (Ask x) i j (reply.Asked s) (reply.Took t) rest more room rooms fits fit code is = absurd fit
+same_fields k (Ask v) (Ask x) i j (reply.Asked s) (reply.Told t) rest more room rooms fits fit code is = absurd fit
+same_fields k (Ask v) (Ask x) i j (reply.Took s) o rest more room rooms fits fit code is = absurd fits
+same_fields k (Ask v) (Ask x) i j (reply.Told s) o rest more room rooms fits fit code is = absurd fits
+same_fields k (Ask v) (Taken d) i j r o rest more room rooms fits fit code is = absurd (omega (arith, code))
+same_fields k (Ask v) (Query b) i j r o rest more room rooms fits fit code is = absurd (omega (arith, code))
+same_fields k (Taken c) (Ask x) i j r o rest more room rooms fits fit code is = absurd (omega (arith, code))
+same_fields k (Taken c) (Taken d) i j (reply.Took t) (reply.Took u) rest more room rooms fits fit code is = same_frames k i j c d t u rest more room rooms fits fit is
+same_fields k (Taken c) (Taken d) i j (reply.Took t) (reply.Asked u) rest more room rooms fits fit code is = absurd fit
+same_fields k (Taken c) (Taken d) i j (reply.Took t) (reply.Told u) rest more room rooms fits fit code is = absurd fit
+same_fields k (Taken c) (Taken d) i j (reply.Asked t) o rest more room rooms fits fit code is = absurd fits
+same_fields k (Taken c) (Taken d) i j (reply.Told t) o rest more room rooms fits fit code is = absurd fits
+same_fields k (Taken c) (Query b) i j r o rest more room rooms fits fit code is = absurd (omega (arith, code))
+same_fields k (Query a) (Ask x) i j r o rest more room rooms fits fit code is = absurd (omega (arith, code))
+same_fields k (Query a) (Taken d) i j r o rest more room rooms fits fit code is = absurd (omega (arith, code))
+same_fields k (Query a) (Query b) i j (reply.Told t) (reply.Told u) rest more room rooms fits fit code is = same_queries i j a b t u rest more room rooms fits fit is
+same_fields k (Query a) (Query b) i j (reply.Told t) (reply.Asked u) rest more room rooms fits fit code is = absurd fit
+same_fields k (Query a) (Query b) i j (reply.Told t) (reply.Took u) rest more room rooms fits fit code is = absurd fit
+same_fields k (Query a) (Query b) i j (reply.Asked t) o rest more room rooms fits fit code is = absurd fits
+same_fields k (Query a) (Query b) i j (reply.Took t) o rest more room rooms fits fit code is = absurd fits
 
-logged_by_parts :
-    (l o : LoggedFields) → l.entry.stamp ≡ o.entry.stamp → l.entry.event ≡ o.entry.event → l.entry.reply ≡ o.entry.reply → l.id ≡ o.id → l.whole ≡ o.whole → l ≡ o
-logged_by_parts l o stamp event reply id whole =
-    let A : ℕ → LoggedFields = λ n. record { entry = record { stamp = n; event = l.entry.event; reply = l.entry.reply }; id = l.id; whole = l.whole } in
-    let B : Event → LoggedFields = λ e. record { entry = record { stamp = o.entry.stamp; event = e; reply = l.entry.reply }; id = l.id; whole = l.whole } in
-    let C : Reply → LoggedFields = λ r. record { entry = record { stamp = o.entry.stamp; event = o.entry.event; reply = r }; id = l.id; whole = l.whole } in
-    let D : ℕ → LoggedFields = λ n. record { entry = o.entry; id = n; whole = l.whole } in
-    let E : Bool → LoggedFields = λ w. record { entry = o.entry; id = o.id; whole = w } in
-    ap A stamp ∙ ap B event ∙ ap C reply ∙ ap D id ∙ ap E whole
+logged_by_parts : (l o : LoggedFields) → l.entry.stamp ≡ o.entry.stamp → l.entry.event ≡ o.entry.event → l.entry.reply ≡ o.entry.reply → l.id ≡ o.id → l ≡ o
+logged_by_parts l o stamp event reply id =
+    let A : ℕ → LoggedFields = λ n. record { entry = record { stamp = n; event = l.entry.event; reply = l.entry.reply }; id = l.id } in
+    let B : Event → LoggedFields = λ e. record { entry = record { stamp = o.entry.stamp; event = e; reply = l.entry.reply }; id = l.id } in
+    let C : Reply → LoggedFields = λ r. record { entry = record { stamp = o.entry.stamp; event = o.entry.event; reply = r }; id = l.id } in
+    let D : ℕ → LoggedFields = λ n. record { entry = o.entry; id = n } in
+    ap A stamp ∙ ap B event ∙ ap C reply ∙ ap D id
 
 pub one_record :
-    OneFront → (k : KeyFields) (bytes : List ℕ) (l other : LoggedFields) → (stands : StandsIn k bytes l) → (others : StandsIn k bytes other)
+    (k : KeyFields) (bytes : List ℕ) (l other : LoggedFields) → (stands : StandsIn k bytes l) → (others : StandsIn k bytes other)
     → (l ≡ other) × (stands.rest ≡ others.rest)
 unfolding record_of
-one_record law k bytes l other stands others =
+one_record k bytes l other stands others =
     let is : record_of l ++ stands.rest ≡ record_of other ++ others.rest = sym stands.is ∙ others.is in
     let mine = stands.loggable in
     let its = others.loggable in
-    let code : kind_code l.entry.event l.whole ≡ kind_code other.entry.event other.whole = ap (λ (x : List ℕ). get_or x 0 0) is in
-    let whole = same_whole l.entry.event other.entry.event l.whole other.whole mine.form its.form code in
-    let fields : record_fields l.entry.event l.id l.whole l.entry.reply ++ stands.rest ≡ record_fields other.entry.event other.id other.whole other.entry.reply ++ others.rest =
+    let code : kind_code l.entry.event ≡ kind_code other.entry.event = ap (λ (x : List ℕ). get_or x 0 0) is in
+    let fields : record_fields l.entry.event l.id l.entry.reply ++ stands.rest ≡ record_fields other.entry.event other.id other.entry.reply ++ others.rest =
     ap (λ (x : List ℕ). drop 3 x) is in
-    let same = same_fields law k l.entry.event other.entry.event l.id other.id l.whole l.entry.reply other.entry.reply stands.rest others.rest
-    mine.event its.event mine.reply its.reply (code ∙ ap (λ (w : Bool). kind_code other.entry.event w) (sym whole))
-    (fields ∙ ap (λ (w : Bool). record_fields other.entry.event other.id w other.entry.reply ++ others.rest) (sym whole)) in
-    let stamp = two_same l.entry.stamp other.entry.stamp (record_fields l.entry.event l.id l.whole l.entry.reply ++ stands.rest)
-    (record_fields other.entry.event other.id other.whole other.entry.reply ++ others.rest)
+    let same = same_fields k l.entry.event other.entry.event l.id other.id l.entry.reply other.entry.reply stands.rest others.rest
+    mine.event its.event mine.reply its.reply code fields in
+    let stamp = two_same l.entry.stamp other.entry.stamp (record_fields l.entry.event l.id l.entry.reply ++ stands.rest)
+    (record_fields other.entry.event other.id other.entry.reply ++ others.rest)
     mine.stamp its.stamp (ap (λ (x : List ℕ). drop 1 x) is) in
-    (logged_by_parts l other stamp same.event same.reply same.id whole, same.rest)
+    (logged_by_parts l other stamp same.event same.reply same.id, same.rest)
 
 -- ---- a row of them
 
@@ -198,17 +159,17 @@ others_of : (k : KeyFields) (x : LoggedFields) (xs : List LoggedFields) → All 
 others_of k x xs all i d within = all (suc i) d (omega (arith, within))
 
 pub one_list :
-    OneFront → (k : KeyFields) (one other : List LoggedFields) → All (IsLoggable k) one → All (IsLoggable k) other
+    (k : KeyFields) (one other : List LoggedFields) → All (IsLoggable k) one → All (IsLoggable k) other
     → flat_map record_of one ≡ flat_map record_of other → one ≡ other
-one_list law k [] [] mine its same = refl
-one_list law k [] (y ∷ ys) mine its same =
+one_list k [] [] mine its same = refl
+one_list k [] (y ∷ ys) mine its same =
     absurd (omega (arith, ap (λ (l : List ℕ). length l) same, length-append (record_of y) (flat_map record_of ys), some_bytes y))
-one_list law k (x ∷ xs) [] mine its same =
+one_list k (x ∷ xs) [] mine its same =
     absurd (omega (arith, ap (λ (l : List ℕ). length l) same, length-append (record_of x) (flat_map record_of xs), some_bytes x))
-one_list law k (x ∷ xs) (y ∷ ys) mine its same =
+one_list k (x ∷ xs) (y ∷ ys) mine its same =
     let bytes : List ℕ = flat_map record_of (x ∷ xs) in
     let at_x : StandsIn k bytes x = record { loggable = first_of k x xs mine; rest = flat_map record_of xs; is = refl } in
     let at_y : StandsIn k bytes y = record { loggable = first_of k y ys its; rest = flat_map record_of ys; is = same } in
-    let both = one_record law k bytes x y at_x at_y in
+    let both = one_record k bytes x y at_x at_y in
     ap (λ (z : LoggedFields). z ∷ xs) both.0
-    ∙ ap (λ (zs : List LoggedFields). y ∷ zs) (one_list law k xs ys (others_of k x xs mine) (others_of k y ys its) both.1)
+    ∙ ap (λ (zs : List LoggedFields). y ∷ zs) (one_list k xs ys (others_of k x xs mine) (others_of k y ys its) both.1)

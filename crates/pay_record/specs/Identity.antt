@@ -8,7 +8,7 @@ use Rattle.pay_link.specs.Genesis.{GenesisFields}
 use Rattle.pay_link.specs.Keys.{KeyFields, key_for, no_key}
 use Rattle.pay_log.specs.declared.header.Header.{Header}
 
--- what a member shares with another, and zeros with itself
+-- the key that a member shares with another, and zeros for itself
 abbrev pub shared_key : KeyFields → ℕ → List ℕ
 shared_key k p = if p == k.own then no_key else key_for k p
 
@@ -19,7 +19,7 @@ all_keys k = flat_map (shared_key k) (range_with_len 0 (length k.keys))
 abbrev pub log_key_of : KeyFields → List ℕ
 log_key_of k = mac (all_keys k) (codes "payd log 1")
 
--- members, faults, and what each account begins with
+-- members, faults, and what each account opens with
 abbrev pub genesis_bytes : GenesisFields → List ℕ
 genesis_bytes g =
     to_be_bytes w16 g.members ++ to_be_bytes w16 g.faults
@@ -31,5 +31,4 @@ header_of g k =
       genesis = sha256 (genesis_bytes g);
       member = k.own;
       keys = mac (log_key_of k) (codes "payd log keys 4");
-      former_keys = mac (log_key_of k) (codes "payd log keys");
     }

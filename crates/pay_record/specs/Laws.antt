@@ -1,24 +1,23 @@
--- What holds of records, as statements. Each is proved as a public law.
+-- Statements about records. Each is proved as a public law.
 use Rattle.std.specs.List.{All, flat_map}
-use Rattle.std.specs.Prelude.{◌≡◌, ◌⊎◌, ℕ, List, ◌∷◌, ◌++◌, length, false, Result, Ok, Err}
+use Rattle.std.specs.Prelude.{◌≡◌, ◌⊎◌, ℕ, List, ◌∷◌, ◌++◌, length, Result, Ok, Err}
 use Rattle.pay_link.specs.Genesis.{GenesisFields, IsGenesis}
 use Rattle.pay_link.specs.Keys.{KeyFields}
-use Rattle.pay_member.specs.declared.entry.HistoryEntry.{HistoryEntry}
+use Rattle.pay_member.specs.declared.event.HistoryEntry.{HistoryEntry}
 use Rattle.pay_member.specs.Legal.{Legal}
-use Rattle.pay_record.specs.Resuming.{LoggedFields}
-use Rattle.pay_record.specs.declared.records.RecordFault.{RecordFault}
-use Rattle.pay_record.specs.declared.records.RecordFault.TheVariants.{Memory}
+use Rattle.pay_record.specs.declared.reading.RecordFault.{RecordFault}
+use Rattle.pay_record.specs.declared.reading.RecordFault.TheVariants.{Memory}
 use Rattle.pay_record.specs.Loggable.{FitsRecord, IsLoggable, IsTyped, IsReadAs, StandsIn}
-use Rattle.pay_record.specs.Records.{record_of}
+use Rattle.pay_record.specs.Records.{LoggedFields, record_of}
 
--- One record at most stands at the front of bytes, and it is said what stands after.
+-- At most one record stands at the front of bytes, and the bytes after it are determined.
 abbrev pub OneRecord : Type 0
 OneRecord =
     (k : KeyFields) (bytes : List ℕ) (l other : LoggedFields)
     → (stands : StandsIn k bytes l) → (others : StandsIn k bytes other)
     → (l ≡ other) × (stands.rest ≡ others.rest)
 
--- What was written is read again, whatever stands after it, but for refused memory.
+-- What was written is read again, whatever stands after it, except if memory runs out.
 abbrev pub WrittenIsRead : Type 0
 WrittenIsRead =
     (k : KeyFields) (l : LoggedFields) (rest : List ℕ)
@@ -33,19 +32,19 @@ LegalHasRoom =
     (after : List HistoryEntry)
     → Legal g k (before ++ e ∷ after) → FitsRecord e.event
 
--- Lists of entries that have the same records are the same.
+-- Lists of entries with equal records are equal.
 abbrev pub OneList : Type 0
 OneList =
     (k : KeyFields) (one other : List LoggedFields) → All (IsLoggable k) one
     → All (IsLoggable k) other
     → flat_map record_of one ≡ flat_map record_of other → one ≡ other
 
--- Each entry of a history that a member can have tells all of itself to that member, its frame
--- compact.
+-- The record of each entry of a history that a member can have says everything about it to that
+-- member.
 abbrev pub LegalIsLoggable : Type 0
 LegalIsLoggable =
     (g : GenesisFields) (k : KeyFields) (before : List HistoryEntry) (e : HistoryEntry)
     (after : List HistoryEntry)
     (id : ℕ) → IsGenesis g → Legal g k (before ++ e ∷ after)
-    → IsTyped (record { entry = e; id = id; whole = false })
-    → IsLoggable k (record { entry = e; id = id; whole = false })
+    → IsTyped (record { entry = e; id = id })
+    → IsLoggable k (record { entry = e; id = id })

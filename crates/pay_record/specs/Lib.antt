@@ -1,7 +1,9 @@
-pub mod Resuming
 pub mod Records
 pub mod Loggable
+pub mod Resuming
 pub mod Identity
 pub mod Laws
 pub mod Examples
 pub mod Restarting
+pub mod Starts
+pub mod Crashes

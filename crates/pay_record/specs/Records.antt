@@ -1,23 +1,24 @@
--- How an entry of a member's history stands in a log. Numbers are big-endian.
+-- The form of an entry of a member's history in a log. Numbers are big-endian.
 use Rattle.std.specs.Prelude.{ℕ, ◌+◌, ◌*◌, Bool, true, false, List, ◌∷◌, ◌++◌, length}
 use Rattle.std.specs.Int.{w16, w32, w64, to_be_bytes}
-use Rattle.pay_frame.specs.Frame.{BodyFields, FrameFields, code_of, frame_bytes}
+use Rattle.pay_frame.specs.Frame.{BodyFields, FrameFields, code_of}
+use Rattle.pay_member.specs.declared.event.HistoryEntry.{HistoryEntry}
 use Rattle.pay_member.specs.declared.event.Event.{Event}
 use Rattle.pay_member.specs.declared.event.Event.TheVariants.{Ask, Taken, Query}
-use Rattle.pay_member.specs.declared.reply.Reply.{Reply}
-use Rattle.pay_member.specs.declared.reply.Reply.TheVariants.{Asked, Took, Told}
-use Rattle.pay_member.specs.declared.took.Took as took
-use Rattle.pay_record.specs.Resuming.{LoggedFields}
+use Rattle.pay_member.specs.declared.event.Reply.{Reply}
+use Rattle.pay_member.specs.declared.event.Reply.TheVariants.{Asked, Took, Told}
+use Rattle.pay_member.specs.declared.event.Took as took
 
--- a whole frame, and a compact one
-abbrev pub frame_code : Bool → ℕ
-frame_code true = 2
-frame_code false = 4
+-- An entry in the form of a log: with the id under which its owner submitted it, if it is a
+-- submitted value.
+pub record LoggedFields : Type 0 where
+  pub entry : HistoryEntry
+  pub id : ℕ
 
-abbrev pub kind_code : Event → Bool → ℕ
-kind_code (Ask v) whole = 1
-kind_code (Taken c) whole = frame_code whole
-kind_code (Query a) whole = 3
+abbrev pub kind_code : Event → ℕ
+kind_code (Ask v) = 1
+kind_code (Taken c) = 4
+kind_code (Query a) = 3
 
 abbrev pub bit_of : Bool → ℕ
 bit_of false = 0
@@ -39,26 +40,21 @@ body_bytes b =
     code_of b.kind ∷ (to_be_bytes w16 b.owner ++ to_be_bytes w32 b.seq
     ++ to_be_bytes w16 (length b.value) ++ b.value)
 
--- A compact frame: its sender, its number and its body. Its receiver is the log's member, and its
--- tag follows from all these and the key that both share.
-abbrev pub compact_bytes : FrameFields → List ℕ
-compact_bytes f = to_be_bytes w16 f.from ++ to_be_bytes w64 f.number ++ body_bytes f.body
+-- A frame's sender, number and body. Its receiver is the log's member, and its tag follows from all
+-- these and the key that both share.
+abbrev pub frame_part : FrameFields → List ℕ
+frame_part f = to_be_bytes w16 f.from ++ to_be_bytes w64 f.number ++ body_bytes f.body
 
--- all bytes of a frame, or its compact ones
-abbrev pub frame_part : Bool → FrameFields → List ℕ
-frame_part true f = frame_bytes f
-frame_part false f = compact_bytes f
-
--- What stands after the stamp: of an ask its id, its reply, its value's length and its value; of a
--- frame its reply and its bytes; of a query its account and its reply.
-abbrev pub record_fields : Event → ℕ → Bool → Reply → List ℕ
-record_fields (Ask v) id whole reply =
+-- The bytes after the stamp. A submitted value has its id, its reply, its length and its bytes. A
+-- frame has its reply and its part. A query has its account and its reply.
+abbrev pub record_fields : Event → ℕ → Reply → List ℕ
+record_fields (Ask v) id reply =
     to_be_bytes w64 id ++ reply_bytes reply ++ to_be_bytes w16 (length v) ++ v
-record_fields (Taken c) id whole reply = reply_bytes reply ++ frame_part whole c.frame
-record_fields (Query a) id whole reply = to_be_bytes w16 a ++ reply_bytes reply
+record_fields (Taken c) id reply = reply_bytes reply ++ frame_part c.frame
+record_fields (Query a) id reply = to_be_bytes w16 a ++ reply_bytes reply
 
--- what it is, its stamp, and its fields
+-- the kind of an entry, its stamp, and its fields
 unfoldable pub record_of : LoggedFields → List ℕ
 record_of l =
-    (kind_code l.entry.event l.whole ∷ to_be_bytes w16 l.entry.stamp)
-    ++ record_fields l.entry.event l.id l.whole l.entry.reply
+    (kind_code l.entry.event ∷ to_be_bytes w16 l.entry.stamp)
+    ++ record_fields l.entry.event l.id l.entry.reply

@@ -1,4 +1,4 @@
-//! Whose log a file is: its key, and its header.
+//! The identity of a log: its key, and its header.
 
 ghost use Rattle.std.specs.Prelude.{◌≡◌, ◌<◌, IfOk, length};
 ghost use Rattle.std.specs.List.{range_with_len, flat_map};
@@ -11,16 +11,14 @@ use pay_log::Header;
 use sha2::{Digest, Sha256};
 use std::alloc::{AllocError, Global};
 
-/// What the key of a log is the tag of.
+/// The text that the key of a log is computed from.
 const KEY_TEXT: &[u8] = b"payd log 1";
 
-/// What a header's fingerprint of the keys is the tag of.
+/// The text that a header's fingerprint of the keys is computed from.
 const FINGERPRINT_TEXT: &[u8] = b"payd log keys 4";
 
-/// The same in the formats before the one that is written.
-const FORMER_TEXT: &[u8] = b"payd log keys";
-
-/// The key of a member's log. Nobody else can make it: it is of all keys that the member has.
+/// Returns the key of a member's log. Nobody else can compute it, since it depends on all keys of
+/// the member.
 pub fn log_key(alloc: Global, keys: &Keys) -> Result<[u8; 32], AllocError>
     ensures { IfOk result (λ key. key ≡ log_key_of keys.now) }
 {
@@ -28,7 +26,7 @@ pub fn log_key(alloc: Global, keys: &Keys) -> Result<[u8; 32], AllocError>
     Ok(mac(&all, KEY_TEXT))
 }
 
-/// The header of a member's log.
+/// Returns the header of a member's log.
 pub fn log_header(alloc: Global, genesis: &Genesis, keys: &Keys) -> Result<Header, AllocError>
     ensures { IfOk result (λ header. header ≡ header_of genesis.now keys.now) }
 {
@@ -38,11 +36,10 @@ pub fn log_header(alloc: Global, genesis: &Genesis, keys: &Keys) -> Result<Heade
         genesis: Sha256::digest(bytes.as_slice()),
         member: keys.own(),
         keys: mac(&key, FINGERPRINT_TEXT),
-        former_keys: mac(&key, FORMER_TEXT),
     })
 }
 
-// The keys of all members, in their order.
+// Returns the keys that the member shares with each member, in their order.
 fn all_keys(alloc: Global, keys: &Keys) -> Result<Vec<u8>, AllocError>
     ensures { IfOk result (λ bytes. bytes.items ≡ all_keys keys.now) }
 {
@@ -53,7 +50,7 @@ fn all_keys(alloc: Global, keys: &Keys) -> Result<Vec<u8>, AllocError>
     Ok(bytes)
 }
 
-// What a member shares with another, and zeros with itself.
+// Returns the key that a member shares with `member`, and zeros for itself.
 fn shared_key(keys: &Keys, member: u16) -> [u8; 32]
     requires { member < length keys.now.keys }
     ensures { result ≡ shared_key keys.now member }
@@ -65,7 +62,7 @@ fn shared_key(keys: &Keys, member: u16) -> [u8; 32]
     }
 }
 
-// Members, faults, and what each account begins with.
+// Returns the members, the faults, and what each account opens with, as bytes.
 fn genesis_bytes(alloc: Global, genesis: &Genesis) -> Result<Vec<u8>, AllocError>
     ensures { IfOk result (λ bytes. bytes.items ≡ genesis_bytes genesis.now) }
 {

@@ -1,80 +1,131 @@
-//! Records as they are read.
+//! Records as they are read: numbers in front of bytes, and an entry of each kind.
 
-ghost use Rattle.std.specs.Prelude.{◌≡◌, ◌≢◌, ◌++◌, ◌∷◌, ◌+◌, ◌≤◌, ◌<◌, ◌⊎◌, ⊤, IfOk, IfSome};
-ghost use Rattle.std.specs.Prelude.{IfNone, false, true};
-ghost use Rattle.std.specs.Prelude.{length, drop};
-ghost use Rattle.std.specs.Prelude.{◌↔◌, IsTrue};
-ghost use Rattle.std.specs.Int.{w16, to_be_bytes};
-ghost use Rattle.pay_frame.specs.Frame.{FrameFields, code_of, frame_bytes};
-ghost use Rattle.pay_frame.specs.Lent.{fields_of};
-ghost use Rattle.pay_frame.specs.Reading.{HasFrame};
-ghost use Rattle.pay_link.specs.Checked.{CheckedFields, IsChecked, IsFor};
-ghost use Rattle.pay_link.specs.Keys.{KeyFields};
-ghost use Rattle.pay_log.specs.Chunks.{BeginsWith};
-ghost use Rattle.pay_record.specs.Loggable.{IsBodyRead, IsFrameRead, IsLoggable, IsReadAs};
-ghost use Rattle.pay_record.specs.Loggable.{entry_form};
-ghost use Rattle.pay_record.specs.Records.{frame_code, known_bits, record_of};
-ghost use Rattle.pay_record.specs.Resuming.{HasRecord, LoggedFields};
+ghost use Rattle.std.specs.Prelude.{◌≡◌, ◌++◌, ◌∷◌, ◌<◌, ◌^◌, IfSome, IfNone, length, ◌≢◌, ◌≤◌};
+ghost use Rattle.std.specs.Prelude.{◌⊎◌, IfOk, drop};
+ghost use Rattle.std.specs.Int.{w16, w32, w64, to_be_bytes};
+ghost use Rattle.pay_frame.specs.Frame.{code_of};
+ghost use Rattle.pay_record.specs.Loggable.{IsBodyRead, IsFrameRead, IsReadAs};
+ghost use Rattle.pay_record.specs.Records.{known_bits};
 
-use crate::limits::{ASK, COMPACT, FRAME, QUERY};
-use crate::numbers::{eight, four, one, two};
-use crate::records::{RecordFault, Records};
-use pay_frame::{Body, Bytes, FrameRef, GREATEST_VALUE, Kind, SEQS, one_front, one_reading, read};
-use pay_hmac::Tagger;
-use pay_link::{Checked, Keys, laws, open};
+use pay_frame::{Body, Bytes, GREATEST_VALUE, Kind, SEQS};
+use pay_link::{Checked, Keys};
 use pay_member::{AskedValue, Event, HistoryEntry, Reply, Told, Took};
-use std::alloc::Global;
+use std::alloc::{AllocError, AllocFailed, Global};
+use thiserror::Error;
 
-/// How many bytes of an ask's record stand before its value.
+/// The code of a value that the owner submitted.
+pub(crate) const ASK: u8 = 1;
+
+/// The code of a query.
+pub(crate) const QUERY: u8 = 3;
+
+/// The code of a frame that was accepted. Its receiver and its tag aren't stored.
+pub(crate) const FRAME: u8 = 4;
+
+/// The greatest size of a record in bytes.
+pub const MOST_RECORD: usize = 1062;
+
+/// Returns the first byte, and the bytes after it.
+pub(crate) fn one(bytes: &[u8]) -> Option<(u8, &[u8])>
+    ensures some { IfSome result (λ r. bytes.now ≡ r.0 ∷ r.1.now) }
+    ensures none { IfNone result (length bytes.now < 1) }
+{
+    match bytes.split_first() {
+        Some((first, rest)) => Some((*first, rest)),
+        None => None,
+    }
+}
+
+/// Returns a number of two bytes, and the bytes after it.
+#[tactic(auto, using(std::proofs::lemmas::Nat::be_bytes_2))]
+pub(crate) fn two(bytes: &[u8]) -> Option<(u16, &[u8])>
+    ensures some { IfSome result (λ r. bytes.now ≡ to_be_bytes w16 r.0 ++ r.1.now) }
+    ensures range { IfSome result (λ r. r.0 < 2 ^ 16) }
+    ensures none { IfNone result (length bytes.now < 2) }
+{
+    match bytes.split_first_chunk::<2>() {
+        Some((number, rest)) => Some((u16::from_be_bytes(*number), rest)),
+        None => None,
+    }
+}
+
+/// Returns a number of four bytes, and the bytes after it.
+#[tactic(auto, using(std::proofs::lemmas::Nat::be_bytes_4))]
+pub(crate) fn four(bytes: &[u8]) -> Option<(u32, &[u8])>
+    ensures some { IfSome result (λ r. bytes.now ≡ to_be_bytes w32 r.0 ++ r.1.now) }
+    ensures range { IfSome result (λ r. r.0 < 2 ^ 32) }
+    ensures none { IfNone result (length bytes.now < 4) }
+{
+    match bytes.split_first_chunk::<4>() {
+        Some((number, rest)) => Some((u32::from_be_bytes(*number), rest)),
+        None => None,
+    }
+}
+
+/// Returns a number of eight bytes, and the bytes after it.
+#[tactic(auto, using(std::proofs::lemmas::Nat::be_bytes_8))]
+pub(crate) fn eight(bytes: &[u8]) -> Option<(u64, &[u8])>
+    ensures some { IfSome result (λ r. bytes.now ≡ to_be_bytes w64 r.0 ++ r.1.now) }
+    ensures range { IfSome result (λ r. r.0 < 2 ^ 64) }
+    ensures none { IfNone result (length bytes.now < 8) }
+{
+    match bytes.split_first_chunk::<8>() {
+        Some((number, rest)) => Some((u64::from_be_bytes(*number), rest)),
+        None => None,
+    }
+}
+
+/// The size of the part before the value in the record of a submitted value.
 const ASK_LEN: usize = 17;
 
-/// How many bytes of a frame's record stand before the frame.
+/// The size of the part before the frame's part in the record of a frame.
 const FRAME_LEN: usize = 8;
 
-/// How many bytes of a compact frame stand before its body.
+/// The size of the part before the body in a frame's part.
 const ADDRESS_LEN: usize = 10;
 
-/// How many bytes of a compact frame's body stand before its value.
+/// The size of the part before the value in a frame's body.
 const BODY_LEN: usize = 9;
 
-/// How many bytes a query's record has.
+/// The size of a query's record in bytes.
 const QUERY_LEN: usize = 21;
 
-/// The records of the member that has these keys. A frame is opened again: it has to be for that
-/// member, and rightly tagged.
-#[derive(Drop)]
-pub struct EntryRecords<'a, T> {
-    tagger: &'a T,
-    keys: &'a Keys,
+/// The reason why no record is read.
+#[derive(Clone, Copy, Debug, PartialEq, Eq, Error)]
+pub enum RecordFault {
+    /// An allocation failed.
+    #[error("no memory")]
+    Memory,
+    /// The bytes there are no record of this member.
+    #[error("no record of this member")]
+    NoRecord,
 }
 
-impl<'a, T: Tagger> EntryRecords<'a, T> {
-    pub fn new(tagger: &'a T, keys: &'a Keys) -> EntryRecords<'a, T>
-        ensures keys { result.keys ≡ keys.entry }
-    {
-        EntryRecords { tagger, keys }
+impl From<AllocError> for RecordFault {
+    ghost use Rattle.pay_record.specs.declared.reading.RecordFault.TheVariants.{Memory};
+
+    ghost from_gives = { λ _ e. e ≡ Memory };
+
+    fn from(_error: AllocError) -> RecordFault {
+        RecordFault::Memory
     }
 }
 
-impl<T: Tagger> Records for EntryRecords<'_, T> {
-    ghost form = { λ e. entry_form e.keys.now };
+impl<T: Drop> From<AllocFailed<T>> for RecordFault {
+    ghost use Rattle.pay_record.specs.declared.reading.RecordFault.TheVariants.{Memory};
 
-    fn read(&self, alloc: Global, bytes: &[u8]) -> Result<(HistoryEntry, u64, usize), RecordFault>
-        ensures room { IfOk result (λ r. (0 < r.2) × (r.2 ≤ length bytes.now)) }
-        ensures record { IfOk result (λ r.
-            HasRecord (entry_form self.now.keys.now) bytes.now r.0 r.1 r.2) }
-        ensures none { result ≡ Err RecordFault.NoRecord → (l : LoggedFields)
-            → IsLoggable self.now.keys.now l → BeginsWith bytes.now (record_of l) → ⊥ }
-        ensures read { IsReadAs self.now.keys.now bytes.now result }
-    {
-        read_record(alloc, self.tagger, self.keys, bytes)
+    ghost from_gives = { λ _ e. e ≡ Memory };
+
+    fn from(_error: AllocFailed<T>) -> RecordFault {
+        RecordFault::Memory
     }
 }
 
-// The record in front.
-fn read_record<T: Tagger>(
+/// Reads the entry of the record at the front of `bytes`, for the member that has `keys`. Returns
+/// it with the id of a submitted value and the size of the record.
+// promise: records
+pub fn read_record(
     alloc: Global,
-    tagger: &T,
     keys: &Keys,
     bytes: &[u8],
 ) -> Result<(HistoryEntry, u64, usize), RecordFault>
@@ -88,14 +139,13 @@ fn read_record<T: Tagger>(
     };
     match code {
         ASK => read_ask(alloc, keys, stamp, fields),
-        FRAME => read_frame(alloc, tagger, keys, true, stamp, fields),
+        FRAME => read_frame(alloc, keys, stamp, fields),
         QUERY => read_query(keys, stamp, fields),
-        COMPACT => read_frame(alloc, tagger, keys, false, stamp, fields),
         _ => Err(RecordFault::NoRecord),
     }
 }
 
-// The record of an ask, of which these are the bytes after its stamp.
+// Reads the record of a submitted value. `fields` are the bytes after its stamp.
 fn read_ask(
     alloc: Global,
     keys: &Keys,
@@ -125,7 +175,7 @@ fn read_ask(
     Ok((entry, id, ASK_LEN + usize::from(len)))
 }
 
-// A value of `len` bytes.
+// Returns a value of `len` bytes.
 fn value_in_front(alloc: Global, len: u16, bytes: &[u8]) -> Result<Bytes, RecordFault>
     ensures value { IfOk result (λ value. (length value ≡ len) × (len ≤ GREATEST_VALUE)
         × (bytes.now ≡ value ++ drop len bytes.now)) }
@@ -141,17 +191,14 @@ fn value_in_front(alloc: Global, len: u16, bytes: &[u8]) -> Result<Bytes, Record
     }
 }
 
-// The record of a frame, whole or compact, of which these are the bytes after its stamp.
-fn read_frame<T: Tagger>(
+// Reads the record of a frame. `fields` are the bytes after its stamp.
+fn read_frame(
     alloc: Global,
-    tagger: &T,
     keys: &Keys,
-    is_whole: bool,
     stamp: u16,
     fields: &[u8],
 ) -> Result<(HistoryEntry, u64, usize), RecordFault>
-    ensures { IsReadAs keys.now
-        ((frame_code is_whole ∷ to_be_bytes w16 stamp) ++ fields.now) result }
+    ensures { IsReadAs keys.now ((FRAME ∷ to_be_bytes w16 stamp) ++ fields.now) result }
 {
     let Some((bits, rest)) = one(fields) else {
         return Err(RecordFault::NoRecord);
@@ -162,7 +209,7 @@ fn read_frame<T: Tagger>(
     let Some(took) = took_of(bits, settled) else {
         return Err(RecordFault::NoRecord);
     };
-    let (checked, size) = match frame_in_front(alloc, tagger, keys, is_whole, rest) {
+    let (checked, size) = match frame_in_front(alloc, keys, rest) {
         Ok(found) => found,
         Err(fault) => return Err(fault),
     };
@@ -174,7 +221,7 @@ fn read_frame<T: Tagger>(
     Ok((entry, 0, FRAME_LEN + size))
 }
 
-// What followed from a frame, if bits say that.
+// Returns what followed from a frame, if `bits` encode it.
 fn took_of(bits: u8, settled: u32) -> Option<Took>
     ensures some { IfSome result (λ took. (known_bits took ≡ bits) × (took.settled ≡ settled)) }
     ensures none { IfNone result (7 < bits) }
@@ -190,77 +237,9 @@ fn took_of(bits: u8, settled: u32) -> Option<Took>
     })
 }
 
-// The frame in front, whole or compact, and how many bytes it has there.
-fn frame_in_front<T: Tagger>(
-    alloc: Global,
-    tagger: &T,
-    keys: &Keys,
-    is_whole: bool,
-    bytes: &[u8],
-) -> Result<(Checked, usize), RecordFault>
-    ensures { IsFrameRead keys.now is_whole bytes.now result }
-{
-    if is_whole {
-        whole_in_front(alloc, tagger, keys, bytes)
-    } else {
-        compact_in_front(alloc, keys, bytes)
-    }
-}
-
-// The frame in front that opens for the member, and how many bytes it has.
-fn whole_in_front<T: Tagger>(
-    alloc: Global,
-    tagger: &T,
-    keys: &Keys,
-    bytes: &[u8],
-) -> Result<(Checked, usize), RecordFault>
-    ensures { IsFrameRead keys.now true bytes.now result }
-{
-    one_front();
-    laws::judgement_opens();
-    laws::owned_opens_again();
-    let Some((frame, size)) = front(bytes) else {
-        return Err(RecordFault::NoRecord);
-    };
-    if is_want(frame.kind()) {
-        return Err(RecordFault::NoRecord);
-    }
-    match open(tagger, keys, frame) {
-        Ok(opened) => Ok((opened.own(alloc)?, size)),
-        Err(_) => Err(RecordFault::NoRecord),
-    }
-}
-
-// The frame in front, to any receiver, and its length.
-fn front(bytes: &[u8]) -> Option<(FrameRef<'_>, usize)>
-    ensures some { IfSome result (λ found. HasFrame bytes.now (fields_of found.0)
-        × (found.1 ≡ length (frame_bytes (fields_of found.0)))) }
-    ensures none { IfNone result ((f : FrameFields) → HasFrame bytes.now f → ⊥) }
-{
-    one_reading();
-    match read(bytes) {
-        Ok(Some(found)) => Some(found),
-        Ok(None) => None,
-        Err(_) => None,
-    }
-}
-
-fn is_want(kind: Kind) -> bool
-    ensures { IsTrue result ↔ (kind ≡ Kind.Want) }
-{
-    match kind {
-        Kind::Send | Kind::Echo | Kind::Ready => false,
-        Kind::Want => true,
-    }
-}
-
-// The compact frame in front, and how many bytes it has.
-fn compact_in_front(
-    alloc: Global,
-    keys: &Keys,
-    bytes: &[u8],
-) -> Result<(Checked, usize), RecordFault>
-    ensures { IsFrameRead keys.now false bytes.now result }
+// Returns the frame of the part at the front of `bytes`, and the size of that part.
+fn frame_in_front(alloc: Global, keys: &Keys, bytes: &[u8]) -> Result<(Checked, usize), RecordFault>
+    ensures { IsFrameRead keys.now bytes.now result }
 {
     let Some((from, rest)) = two(bytes) else {
         return Err(RecordFault::NoRecord);
@@ -282,7 +261,7 @@ fn compact_in_front(
     Ok((checked, ADDRESS_LEN + size))
 }
 
-// The body in front, which is no WANT's, and how many bytes it has.
+// Returns the body at the front of `bytes`, and its size. A WANT's body is none.
 fn body_in_front(alloc: Global, bytes: &[u8]) -> Result<(Body, usize), RecordFault>
     ensures { IsBodyRead bytes.now result }
 {
@@ -312,7 +291,7 @@ fn body_in_front(alloc: Global, bytes: &[u8]) -> Result<(Body, usize), RecordFau
     Ok((body, BODY_LEN + usize::from(len)))
 }
 
-// The kind that this byte stands for, if that is of a vote.
+// Returns the kind that `code` stands for, if it is the kind of a vote.
 fn vote_of(code: u8) -> Option<Kind>
     ensures some { IfSome result (λ kind. (code_of kind ≡ code) × (kind ≢ Kind.Want)) }
     ensures none { IfNone result ((kind : Kind) → kind ≢ Kind.Want → code_of kind ≡ code → ⊥) }
@@ -325,7 +304,7 @@ fn vote_of(code: u8) -> Option<Kind>
     }
 }
 
-// The record of a query, of which these are the bytes after its stamp.
+// Reads the record of a query. `fields` are the bytes after its stamp.
 fn read_query(
     keys: &Keys,
     stamp: u16,

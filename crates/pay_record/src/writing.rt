@@ -1,20 +1,20 @@
 //! Records as they are written.
 
-ghost use Rattle.std.specs.Prelude.{◌≡◌, ◌+◌, ◌++◌, OnErr, OnOk, IfOk};
-ghost use Rattle.std.specs.Prelude.{◌≤◌, false, length};
+ghost use Rattle.std.specs.Prelude.{◌≡◌, ◌+◌, ◌++◌, OnErr, OnOk, IfOk, ◌≤◌, length};
 ghost use Rattle.std.specs.Int.{w16, to_be_bytes};
 ghost use Rattle.pay_frame.specs.declared.limits.TheConstants.{GREATEST_VALUE};
 ghost use Rattle.pay_record.specs.Loggable.{FitsRecord, IsWithinLimits};
-ghost use Rattle.pay_record.specs.Records.{body_bytes, compact_bytes, kind_code, known_bits};
+ghost use Rattle.pay_record.specs.Records.{body_bytes, frame_part, kind_code, known_bits};
 ghost use Rattle.pay_record.specs.Records.{record_fields, record_of, reply_bytes};
 
-use crate::limits::{ASK, COMPACT, MOST_RECORD, QUERY};
+use crate::reading::{ASK, FRAME, MOST_RECORD, QUERY};
 use pay_frame::Body;
 use pay_link::Checked;
 use pay_member::{Event, HistoryEntry, Reply, Told, Took};
 use std::alloc::{AllocError, Global};
 
-/// Appends the record of an entry. The id is of an ask alone: 0 where nobody named one.
+/// Appends the record of `entry` to `out`. `id` belongs only to a submitted value, and is 0 if
+/// nobody named an id.
 // promise: records
 pub fn push_record(
     alloc: Global,
@@ -24,7 +24,7 @@ pub fn push_record(
 ) -> Result<(), AllocError>
     requires { FitsRecord entry.now.event }
     ensures appended { OnOk result (out.new.items
-        ≡ out.old.items ++ record_of (record { entry = entry.now; id = id; whole = false })) }
+        ≡ out.old.items ++ record_of (record { entry = entry.now; id = id })) }
     ensures err { OnErr result (out.new.items ≡ out.old.items) }
     ensures size { OnOk result (length out.new.items ≤ length out.old.items + MOST_RECORD) }
 {
@@ -37,7 +37,7 @@ pub fn push_record(
 fn encode(alloc: Global, entry: &HistoryEntry, id: u64) -> Result<Vec<u8>, AllocError>
     requires { FitsRecord entry.now.event }
     ensures { IfOk result (λ bytes.
-        bytes.items ≡ record_of (record { entry = entry.now; id = id; whole = false })) }
+        bytes.items ≡ record_of (record { entry = entry.now; id = id })) }
 {
     let mut out = Vec::new(alloc);
     out.push(code_of(&entry.event))?;
@@ -46,7 +46,7 @@ fn encode(alloc: Global, entry: &HistoryEntry, id: u64) -> Result<Vec<u8>, Alloc
     Ok(out)
 }
 
-// What is for its clause alone: a frame that was opened is within its limits.
+// States that an authenticated frame is within its limits. The call does nothing.
 fn is_sound(event: &Event)
     ensures { IsWithinLimits event.now }
 {
@@ -59,11 +59,11 @@ fn is_sound(event: &Event)
 }
 
 fn code_of(event: &Event) -> u8
-    ensures { result ≡ kind_code event.now false }
+    ensures { result ≡ kind_code event.now }
 {
     match event {
         Event::Ask(_) => ASK,
-        Event::Taken(_) => COMPACT,
+        Event::Taken(_) => FRAME,
         Event::Query(_) => QUERY,
     }
 }
@@ -71,7 +71,7 @@ fn code_of(event: &Event) -> u8
 fn push_fields(out: &mut Vec<u8>, event: &Event, id: u64, reply: Reply) -> Result<(), AllocError>
     requires { FitsRecord event.now }
     ensures { OnOk result (out.new.items
-        ≡ out.old.items ++ record_fields event.now id false reply) }
+        ≡ out.old.items ++ record_fields event.now id reply) }
 {
     match event {
         Event::Ask(value) => {
@@ -131,7 +131,7 @@ fn push_value(out: &mut Vec<u8>, value: &[u8]) -> Result<(), AllocError>
 }
 
 fn push_frame(out: &mut Vec<u8>, checked: &Checked) -> Result<(), AllocError>
-    ensures { OnOk result (out.new.items ≡ out.old.items ++ compact_bytes checked.now.frame) }
+    ensures { OnOk result (out.new.items ≡ out.old.items ++ frame_part checked.now.frame) }
 {
     out.extend_from_slice(&checked.from().to_be_bytes())?;
     out.extend_from_slice(&checked.number().to_be_bytes())?;

@@ -13,17 +13,17 @@ use Rattle.pay_channel.specs.Taken.{next}
 use Rattle.pay_link.specs.Keys.{KeyFields, key_for}
 use Rattle.pay_link.specs.Sealing.{tagged_bytes}
 use Rattle.pay_link.specs.TestKeys.{test_keys_of}
-use Rattle.pay_member.specs.declared.outcome.Outcome.{Outcome}
-use Rattle.pay_member.specs.declared.outcome.Outcome.TheVariants.{Took}
-use Rattle.pay_member.specs.declared.took.Took as took
+use Rattle.pay_member.specs.declared.bringing.Outcome.{Outcome}
+use Rattle.pay_member.specs.declared.bringing.Outcome.TheVariants.{Took}
+use Rattle.pay_member.specs.declared.event.Took as took
 use Rattle.pay_member.specs.Bringing.{IsOutcome, opened_in}
 use Rattle.pay_member.specs.Group.{group_in}
 use Rattle.pay_member.specs.OpeningLaws.{WhatOpens}
 use Rattle.pay_member.specs.Reply.{took_by}
 use Rattle.pay_world.specs.declared.event.WorldEvent.{WorldEvent}
 use Rattle.pay_world.specs.declared.event.WorldEvent.TheVariants.{Bring}
-use Rattle.pay_world.specs.declared.reply.WorldReply.{WorldReply}
-use Rattle.pay_world.specs.declared.reply.WorldReply.TheVariants.{Asked, Refused, Brought, Ignored}
+use Rattle.pay_world.specs.declared.event.WorldReply.{WorldReply}
+use Rattle.pay_world.specs.declared.event.WorldReply.TheVariants.{Asked, Refused, Brought, Ignored}
 use Rattle.pay_world.specs.Answer.{brought_to, action_with}
 use Rattle.pay_world.specs.ActionLaws.{ForgedIsTold}
 use Rattle.pay_world.specs.Actions.{Brings}
@@ -33,8 +33,8 @@ use Rattle.pay_world.specs.Liars.{is_listed, setting_of}
 use Rattle.pay_world.specs.Setting.{group_at}
 use Rattle.pay_sim.specs.declared.game.TheConstants.{MOST_EVENTS}
 use Rattle.pay_sim.specs.declared.group.ScriptGroup.{ScriptGroup}
-use Rattle.pay_sim.specs.declared.stop.RunStop.{RunStop}
-use Rattle.pay_sim.specs.declared.stop.RunStop.TheVariants.{BadLine, Forged, Limit}
+use Rattle.pay_sim.specs.declared.run.RunStop.{RunStop}
+use Rattle.pay_sim.specs.declared.run.RunStop.TheVariants.{BadLine, Forged, Limit}
 use Rattle.pay_sim.specs.All.{BringsAll, Draws, Enough, Again, FeedsMember, Further, Halted, InTurn, Nothing, MakesPass, Stopped}
 use Rattle.pay_sim.specs.Made.{IsBroughtTo, IsReplyAfter, Makes, history_at, is_forged_by, is_there, keys_at, next_number, sent_frame, next_untaken}
 use Rattle.pay_sim.specs.RunLaws.{AreTaken, IsGroup}

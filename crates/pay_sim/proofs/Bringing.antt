@@ -3,11 +3,11 @@ use Rattle.std.proofs.Common.{◌≡◌, ℕ, suc, ◌+◌, ◌-◌, ◌<◌, �
 use Rattle.std.specs.List.{range_with_len}
 use Rattle.pay_world.specs.declared.event.WorldEvent.{WorldEvent}
 use Rattle.pay_world.specs.declared.event.WorldEvent.TheVariants.{Bring}
-use Rattle.pay_world.specs.declared.reply.WorldReply.{WorldReply}
+use Rattle.pay_world.specs.declared.event.WorldReply.{WorldReply}
 use Rattle.pay_sim.specs.declared.group.ScriptGroup.{ScriptGroup}
-use Rattle.pay_sim.specs.declared.stop.Halt.{Halt}
-use Rattle.pay_sim.specs.declared.stop.Halt.TheVariants as halt
-use Rattle.pay_sim.specs.declared.stop.RunStop.{RunStop}
+use Rattle.pay_sim.specs.declared.run.Halt.{Halt}
+use Rattle.pay_sim.specs.declared.run.Halt.TheVariants as halt
+use Rattle.pay_sim.specs.declared.run.RunStop.{RunStop}
 use Rattle.pay_sim.specs.Made.{next_untaken}
 use Rattle.pay_sim.specs.All.{Draws, Nothing, Stopped, Further, InTurn, MakesPass, BringsAll, Enough, Halted, Again}
 use Rattle.pay_sim.specs.Script.{IsConverged, TellsAll, with_feed}

@@ -2,7 +2,7 @@
 use Rattle.std.proofs.Common.{◌≡◌, ◌≢◌, ◌⊎◌, inl, inr, ℕ, zero, suc, ◌+◌, ◌-◌, ◌<◌, ◌≤◌, ◌^◌, codes, decimal, Bool, true, false, cond, List, [], ◌∷◌, ◌++◌, length, Option, Some, None, Result, Ok, Err, MatchOption, refl, sym, ◌∙◌, subst, arith, length-append}
 use Rattle.std.specs.List.{range_with_len}
 use Rattle.std.proofs.lemmas.Bool.{cases_eq, cases_lt}
-use Rattle.pay_frame.specs.declared.fault.FrameFault.{FrameFault}
+use Rattle.pay_frame.specs.declared.reading.FrameFault.{FrameFault}
 use Rattle.pay_frame.specs.Frame.{BodyFields, FrameFields, IsBody}
 use Rattle.pay_frame.specs.OneFrame.{IsOneFrame, IsOneReading}
 use Rattle.pay_frame.specs.Stream.{IsBytes}
@@ -18,8 +18,8 @@ use Rattle.pay_text.specs.Answers.{Answers}
 use Rattle.pay_text.specs.Lines.{lines_within}
 use Rattle.pay_world.specs.declared.event.WorldEvent.{WorldEvent}
 use Rattle.pay_world.specs.declared.event.WorldEvent.TheVariants as event
-use Rattle.pay_world.specs.declared.reply.WorldReply.{WorldReply}
-use Rattle.pay_world.specs.declared.reply.WorldReply.TheVariants.{Brought, Ignored}
+use Rattle.pay_world.specs.declared.event.WorldReply.{WorldReply}
+use Rattle.pay_world.specs.declared.event.WorldReply.TheVariants.{Brought, Ignored}
 use Rattle.pay_world.specs.Answer.{one_more, receiver}
 use Rattle.pay_world.specs.Convergence.{AllTaken, HasTaken}
 use Rattle.pay_world.specs.ActionLaws.{CorrectIsTold}
@@ -31,10 +31,10 @@ use Rattle.pay_sim.specs.declared.command.TheConstants.{MEMBERS}
 use Rattle.pay_sim.specs.declared.game.TheConstants.{MOST_EVENTS}
 use Rattle.pay_sim.specs.declared.group.ScriptGroup.{ScriptGroup}
 use Rattle.pay_sim.specs.declared.run.TheConstants.{LONGEST_LINE}
-use Rattle.pay_sim.specs.declared.sim_end.SimEnd.{SimEnd}
-use Rattle.pay_sim.specs.declared.sim_end.SimEnd.TheVariants as end
-use Rattle.pay_sim.specs.declared.stop.RunStop.{RunStop}
-use Rattle.pay_sim.specs.declared.stop.RunStop.TheVariants.{BadLine, Forged, Limit}
+use Rattle.pay_sim.specs.declared.run.SimEnd.{SimEnd}
+use Rattle.pay_sim.specs.declared.run.SimEnd.TheVariants as end
+use Rattle.pay_sim.specs.declared.run.RunStop.{RunStop}
+use Rattle.pay_sim.specs.declared.run.RunStop.TheVariants.{BadLine, Forged, Limit}
 use Rattle.pay_sim.specs.All.{BringsAll, Draws, Enough, Again, FeedsMember, Further, Halted, InTurn, Nothing, MakesPass, Stopped}
 use Rattle.pay_sim.specs.Commands.{script_command_in}
 use Rattle.pay_sim.specs.Group.{script_group_in}

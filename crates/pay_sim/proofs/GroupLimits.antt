@@ -3,11 +3,11 @@ use Rattle.std.proofs.Common.{◌≡◌, ◌↔◌, ℕ, List, Option, Some, Non
 use Rattle.std.specs.Option.{option_map_or}
 use Rattle.std.specs.Result.{result_ok}
 use Rattle.pay_link.specs.Json.{Data, value_in}
-use Rattle.pay_link.specs.declared.genesis_fault.GenesisFault.{GenesisFault}
-use Rattle.pay_link.specs.declared.genesis_fault.GenesisFault.TheVariants as genesis
+use Rattle.pay_link.specs.declared.genesis.GenesisFault.{GenesisFault}
+use Rattle.pay_link.specs.declared.genesis.GenesisFault.TheVariants as genesis
 use Rattle.pay_link.specs.Files.{◌>>=◌, genesis_in, genesis_said}
 use Rattle.pay_link.specs.Genesis.{GenesisFields, IsGenesis, genesis_fault}
-use Rattle.pay_world.specs.declared.liar_fault.LiarFault.{LiarFault}
+use Rattle.pay_world.specs.declared.liars.LiarFault.{LiarFault}
 use Rattle.pay_world.specs.Liars.{AreLiars, LiarFields, liar_fault, liars_in}
 use Rattle.pay_sim.specs.declared.group.ScriptGroup.{ScriptGroup}
 use Rattle.pay_sim.specs.Group.{fitting, script_group_in, liars_said, with_liars}

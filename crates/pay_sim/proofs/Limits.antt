@@ -4,8 +4,8 @@ use Rattle.std.specs.List.{AllByRecursion, filter_map, cons_option, count_by}
 use Rattle.std.specs.Option.{option_or, option_to_list}
 use Rattle.std.proofs.lemmas.Bool.{and_parts}
 use Rattle.std.proofs.lemmas.List.Sums.{sum_by-cons}
-use Rattle.pay_frame.specs.declared.kind.Kind.{Kind}
-use Rattle.pay_frame.specs.declared.kind.Kind.TheVariants.{Send, Echo, Ready, Want}
+use Rattle.pay_frame.specs.declared.body.Kind.{Kind}
+use Rattle.pay_frame.specs.declared.body.Kind.TheVariants.{Send, Echo, Ready, Want}
 use Rattle.pay_frame.specs.declared.limits.TheConstants.{GREATEST_VALUE, SEQS}
 use Rattle.pay_frame.specs.Frame.{BodyFields, FrameFields, IsBody}
 use Rattle.pay_echo.specs.Broadcast.{Group, Vote, echoed, may_ready, readied, value_if_send, value_of}

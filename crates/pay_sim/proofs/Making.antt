@@ -6,16 +6,16 @@ use Rattle.pay_channel.specs.History.{Event}
 use Rattle.pay_frame.specs.Frame.{FrameFields}
 use Rattle.pay_link.specs.Genesis.{GenesisFields}
 use Rattle.pay_link.specs.Keys.{KeyFields}
-use Rattle.pay_member.specs.declared.outcome.Outcome.{Outcome}
-use Rattle.pay_member.specs.declared.outcome.Outcome.TheVariants.{Took, Wanted, Frame, Link, WrongKey}
+use Rattle.pay_member.specs.declared.bringing.Outcome.{Outcome}
+use Rattle.pay_member.specs.declared.bringing.Outcome.TheVariants.{Took, Wanted, Frame, Link, WrongKey}
 use Rattle.pay_member.specs.Bringing.{with_brought}
 use Rattle.pay_member.specs.Events.{events}
 use Rattle.pay_member.specs.Member.{MemberFields}
 use Rattle.pay_world.specs.declared.event.WorldEvent.{WorldEvent}
 use Rattle.pay_world.specs.declared.event.WorldEvent.TheVariants.{Ask, Bring}
-use Rattle.pay_world.specs.declared.fault.WorldFault.TheVariants.{Forged}
-use Rattle.pay_world.specs.declared.reply.WorldReply.{WorldReply}
-use Rattle.pay_world.specs.declared.reply.WorldReply.TheVariants.{Asked, Refused, Brought, Ignored}
+use Rattle.pay_world.specs.declared.event.WorldFault.TheVariants.{Forged}
+use Rattle.pay_world.specs.declared.event.WorldReply.{WorldReply}
+use Rattle.pay_world.specs.declared.event.WorldReply.TheVariants.{Asked, Refused, Brought, Ignored}
 use Rattle.pay_world.specs.Genuine.{is_forged_in}
 use Rattle.pay_world.specs.Liars.{LiarFields, setting_of}
 use Rattle.pay_world.specs.World.{WorldFields, member_in, history_in, keys_in}

@@ -1,27 +1,27 @@
 -- A script has one text: what a relation between what was and what is says of two, the two are the same.
 use Rattle.std.proofs.Common.{◌≡◌, inl, inr, ℕ, ◌-◌, codes, decimal, Bool, true, false, List, [], ◌∷◌, ◌++◌, length, Option, Some, None, Result, Ok, Err, MatchOption, refl, sym, ap, ◌∙◌, subst, arith}
-use Rattle.pay_frame.specs.declared.fault.FrameFault.{FrameFault}
+use Rattle.pay_frame.specs.declared.reading.FrameFault.{FrameFault}
 use Rattle.pay_frame.specs.Frame.{FrameFields}
 use Rattle.pay_frame.specs.OneFrame.{IsOneReading}
 use Rattle.pay_channel.specs.History.{Event}
 use Rattle.pay_link.specs.Genesis.{GenesisFields}
 use Rattle.pay_link.specs.Keys.{KeyFields}
-use Rattle.pay_member.specs.declared.outcome.Outcome.{Outcome}
+use Rattle.pay_member.specs.declared.bringing.Outcome.{Outcome}
 use Rattle.pay_member.specs.Bringing.{IsOutcome, outcome_of}
 use Rattle.pay_text.specs.Answers.{Answers, Either, IsOver}
 use Rattle.pay_text.specs.Lines.{lines_within}
 use Rattle.pay_world.specs.declared.event.WorldEvent.{WorldEvent}
 use Rattle.pay_world.specs.declared.event.WorldEvent.TheVariants as event
-use Rattle.pay_world.specs.declared.reply.WorldReply.{WorldReply}
-use Rattle.pay_world.specs.declared.reply.WorldReply.TheVariants.{Asked, Refused, Brought, Ignored}
+use Rattle.pay_world.specs.declared.event.WorldReply.{WorldReply}
+use Rattle.pay_world.specs.declared.event.WorldReply.TheVariants.{Asked, Refused, Brought, Ignored}
 use Rattle.pay_world.specs.Answer.{receiver}
 use Rattle.pay_sim.specs.declared.command.ScriptCommand.{ScriptCommand}
 use Rattle.pay_sim.specs.declared.command.ScriptCommand.TheVariants.{Ask, Bring, Lie, Raw, All, Show}
 use Rattle.pay_sim.specs.declared.group.ScriptGroup.{ScriptGroup}
 use Rattle.pay_sim.specs.declared.run.TheConstants.{LONGEST_LINE}
-use Rattle.pay_sim.specs.declared.sim_end.SimEnd.{SimEnd}
-use Rattle.pay_sim.specs.declared.stop.RunStop.{RunStop}
-use Rattle.pay_sim.specs.declared.stop.RunStop.TheVariants.{BadLine, Forged, Limit}
+use Rattle.pay_sim.specs.declared.run.SimEnd.{SimEnd}
+use Rattle.pay_sim.specs.declared.run.RunStop.{RunStop}
+use Rattle.pay_sim.specs.declared.run.RunStop.TheVariants.{BadLine, Forged, Limit}
 use Rattle.pay_sim.specs.All.{BringsAll, Draws, Enough, Again, FeedsMember, Further, Halted, InTurn, Nothing, MakesPass, Stopped}
 use Rattle.pay_sim.specs.Commands.{script_command_in}
 use Rattle.pay_sim.specs.Group.{script_group_in}

@@ -5,10 +5,10 @@ use Rattle.pay_world.specs.declared.event.WorldEvent.{WorldEvent}
 use Rattle.pay_world.specs.Answer.{one_more}
 use Rattle.pay_sim.specs.declared.command.ScriptCommand.{ScriptCommand}
 use Rattle.pay_sim.specs.declared.group.ScriptGroup.{ScriptGroup}
-use Rattle.pay_sim.specs.declared.stop.Halt.{Halt}
-use Rattle.pay_sim.specs.declared.stop.Halt.TheVariants as halt
-use Rattle.pay_sim.specs.declared.stop.RunStop.{RunStop}
-use Rattle.pay_sim.specs.declared.stop.RunStop.TheVariants.{BadLine}
+use Rattle.pay_sim.specs.declared.run.Halt.{Halt}
+use Rattle.pay_sim.specs.declared.run.Halt.TheVariants as halt
+use Rattle.pay_sim.specs.declared.run.RunStop.{RunStop}
+use Rattle.pay_sim.specs.declared.run.RunStop.TheVariants.{BadLine}
 use Rattle.pay_sim.specs.Commands.{script_command_in}
 use Rattle.pay_sim.specs.Script.{Told, Prints, Stops, CommandTells, Does, Founds, LineTells, Moment, PlaysLine, last_words, with_feed}
 use Rattle.pay_sim.specs.Playing.{GameFields, IsAfter, IsDone, IsFounded, IsGameAt, IsPlaying, IsRead, IsStopped, PlayFields}

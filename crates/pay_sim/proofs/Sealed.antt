@@ -1,9 +1,9 @@
 -- The frame that a member takes next of another's list opens there, and is taken.
 use Rattle.std.proofs.Common.{◌≡◌, ◌≢◌, ◌↔◌, ℕ, ◌<◌, false, cond, eqb, List, length, Some, None, option_and_then, Result, Ok, Err, refl, sym, ap, ◌∙◌, arith, rules, tests}
 use Rattle.std.proofs.lemmas.List.FromFn.{get_or-map-range_with_len, length-map-range_with_len}
-use Rattle.pay_frame.specs.declared.kind.Kind.{Kind}
-use Rattle.pay_frame.specs.declared.kind.Kind.TheVariants.{Send, Echo, Ready, Want}
-use Rattle.pay_frame.specs.declared.fault.FrameFault.{FrameFault}
+use Rattle.pay_frame.specs.declared.body.Kind.{Kind}
+use Rattle.pay_frame.specs.declared.body.Kind.TheVariants.{Send, Echo, Ready, Want}
+use Rattle.pay_frame.specs.declared.reading.FrameFault.{FrameFault}
 use Rattle.pay_frame.specs.Frame.{BodyFields, FrameFields, IsFrame, frame_bytes}
 use Rattle.pay_frame.specs.OneFrame.{IsOneFrame, IsOneReading, one_frame}
 use Rattle.pay_hmac.specs.Mac.{mac}
@@ -15,10 +15,10 @@ use Rattle.pay_link.specs.Keys.{IsPeer, KeyFields, key_for, no_key}
 use Rattle.pay_link.specs.Opening.{judgement, opened_fields}
 use Rattle.pay_link.specs.Sealing.{sealed_frame, tagged_bytes}
 use Rattle.pay_link.specs.TestKeys.{pair_key, test_key, test_keys_of}
-use Rattle.pay_member.specs.declared.outcome.Outcome.{Outcome}
-use Rattle.pay_member.specs.declared.incoming.Incoming.TheVariants as message
-use Rattle.pay_member.specs.declared.incoming.Incoming.TheVariants.{Message}
-use Rattle.pay_member.specs.declared.outcome.Outcome.TheVariants.{Took}
+use Rattle.pay_member.specs.declared.bringing.Outcome.{Outcome}
+use Rattle.pay_member.specs.declared.bringing.Incoming.TheVariants as message
+use Rattle.pay_member.specs.declared.bringing.Incoming.TheVariants.{Message}
+use Rattle.pay_member.specs.declared.bringing.Outcome.TheVariants.{Took}
 use Rattle.pay_member.specs.Bringing.{IsOutcome, answer_to, outcome_of_judged, incoming_at, incoming_of, is_want, opened_in, outcome_of, outcome_to, unless_want}
 use Rattle.pay_member.specs.Reply.{took_by}
 use Rattle.pay_sim.specs.TestFrames.{test_frame, test_tag}

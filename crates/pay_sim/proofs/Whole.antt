@@ -3,17 +3,17 @@ use Rattle.std.proofs.Common.{◌≡◌, ◌≢◌, ℕ, zero, suc, ◌≤◌, B
 use Rattle.std.specs.Prelude.{IfSome}
 use Rattle.std.specs.Io.KnownBytes.{Appends, IsAtEnd}
 use Rattle.std.proofs.KnownBytes.{Appends-trans}
-use Rattle.pay_io.specs.declared.stream_fault.StreamFault.{StreamFault}
-use Rattle.pay_io.specs.Device.{WroteBeginning}
+use Rattle.pay_frame.specs.declared.device.StreamFault.{StreamFault}
+use Rattle.pay_frame.specs.Device.{WroteBeginning}
 use Rattle.pay_text.specs.Answers.{Answers, Either}
 use Rattle.pay_text.specs.Engine.{Answering, AnswersAll, AnswersFirst, Dialogue, WritesByEnd}
 use Rattle.pay_text.specs.Lines.{line_feed, lines_of, lines_within, within}
 use Rattle.pay_text.specs.Words.{onto_first}
 use Rattle.pay_sim.specs.declared.group.ScriptGroup.{ScriptGroup}
 use Rattle.pay_sim.specs.declared.run.TheConstants.{LONGEST_LINE}
-use Rattle.pay_sim.specs.declared.sim_end.SimEnd.TheVariants as end
-use Rattle.pay_sim.specs.declared.stop.RunStop.{RunStop}
-use Rattle.pay_sim.specs.declared.stop.RunStop.TheVariants.{BadLine, Forged, Limit}
+use Rattle.pay_sim.specs.declared.run.SimEnd.TheVariants as end
+use Rattle.pay_sim.specs.declared.run.RunStop.{RunStop}
+use Rattle.pay_sim.specs.declared.run.RunStop.TheVariants.{BadLine, Forged, Limit}
 use Rattle.pay_sim.specs.Script.{Told, Prints, Stops, Continues, IsRun, IsRunBegun, Moment, PlaysLine, WritesRun, end_of, no_line, start}
 use Rattle.pay_sim.specs.Playing.{IsPlayAnswer, IsAt, IsGameAt, IsPlaying, IsStopped, MayBeAny, PlayFields}
 

@@ -1,18 +1,18 @@
--- What the command `all` brings.
+-- What the command `all` delivers.
 use Rattle.std.specs.Prelude.{◌≡◌, ℕ, ◌<◌, List, [], ◌∷◌, ◌++◌, length, Option, Some, None, Ok, Err}
 use Rattle.std.specs.Prelude.{MatchOption}
 use Rattle.std.specs.List.{range_with_len}
 use Rattle.pay_world.specs.declared.event.WorldEvent.{WorldEvent}
 use Rattle.pay_world.specs.declared.event.WorldEvent.TheVariants.{Bring}
-use Rattle.pay_world.specs.declared.reply.WorldReply.{WorldReply}
+use Rattle.pay_world.specs.declared.event.WorldReply.{WorldReply}
 use Rattle.pay_sim.specs.declared.group.ScriptGroup.{ScriptGroup}
-use Rattle.pay_sim.specs.declared.stop.RunStop.{RunStop}
+use Rattle.pay_sim.specs.declared.run.RunStop.{RunStop}
 use Rattle.pay_sim.specs.Made.{Makes, next_untaken}
 
--- Each relation is of the events that were made before, those that were made after, and what
--- stopped the run in between, if anything did.
+-- Each relation is between the events that were made before, the events that were made after, and
+-- what stopped the run in between, if anything did.
 
--- Member `to` takes of member `from`, frame after frame, until nothing of it is untaken.
+-- Member `to` accepts frames of member `from`, one after the other, until nothing of it is left.
 pub data Draws (c : ScriptGroup) (from to : ℕ)
     : List WorldEvent → List WorldEvent → Option RunStop → Type 0 where
   Nothing : {es : List WorldEvent} → next_untaken c es from to ≡ None → Draws c from to es es None
@@ -32,16 +32,16 @@ InTurn does (i ∷ is) es last stop =
     (mid : List WorldEvent) × (met : Option RunStop) × does i es mid met
     × MatchOption met (InTurn does is mid last stop) (λ s. (last ≡ mid) × (stop ≡ Some s))
 
--- a member takes of each other one, in the order of their numbers
+-- a member accepts frames of each other member, in the order of their numbers
 abbrev pub FeedsMember :
     ScriptGroup → ℕ → List WorldEvent → List WorldEvent → Option RunStop → Type 0
 FeedsMember c to = InTurn (λ from. Draws c from to) (range_with_len 0 c.genesis.members)
 
--- each member does, in this order
+-- each member does this, in this order
 abbrev pub MakesPass : ScriptGroup → List WorldEvent → List WorldEvent → Option RunStop → Type 0
 MakesPass c = InTurn (FeedsMember c) (range_with_len 0 c.genesis.members)
 
--- They do so again and again, until nothing was brought.
+-- The members do this again and again, until nothing was delivered.
 pub data BringsAll (c : ScriptGroup)
     : List WorldEvent → List WorldEvent → Option RunStop → Type 0 where
   Enough : {es last : List WorldEvent} → MakesPass c es last None → length last ≡ length es

@@ -1,11 +1,11 @@
--- What the lines of a script ask for, word by word.
+-- What the lines of a script request, word by word.
 use Rattle.std.specs.Prelude.{ℕ, ◌==◌, nat_lt, List, [], length, drop, codes, if◌then◌else◌, Option}
 use Rattle.std.specs.Prelude.{Some, None, option_and_then, option_map, Result, Ok, Err}
 use Rattle.std.specs.Str.{bytes_eq}
 use Rattle.hex.specs.Hex.{decode_of}
 use Rattle.hex.specs.declared.error.FromHexError.{FromHexError}
-use Rattle.pay_frame.specs.declared.kind.Kind.{Kind}
-use Rattle.pay_frame.specs.declared.kind.Kind.TheVariants.{Send, Echo, Ready, Want}
+use Rattle.pay_frame.specs.declared.body.Kind.{Kind}
+use Rattle.pay_frame.specs.declared.body.Kind.TheVariants.{Send, Echo, Ready, Want}
 use Rattle.pay_frame.specs.declared.limits.TheConstants.{SEQS}
 use Rattle.pay_frame.specs.Frame.{BodyFields}
 use Rattle.pay_frame.specs.OneFrame.{is_body}
@@ -21,7 +21,6 @@ use Rattle.pay_sim.specs.declared.command.TheConstants.{MEMBERS, ACCOUNTS}
 
 -- ---- single words
 
--- change: a command of a script: `specs/Script.antt`; model `tests/models/model.py`
 -- a number below a bound
 abbrev pub if_below : ℕ → ℕ → Option ℕ
 if_below bound n = if nat_lt n bound then Some n else None
@@ -33,7 +32,7 @@ abbrev pub decoded_bytes : Result (List ℕ) FromHexError → Option (List ℕ)
 decoded_bytes (Ok bytes) = Some bytes
 decoded_bytes (Err fault) = None
 
--- bytes in hexadecimal digits of either case, or `-` for none; nothing is no word
+-- bytes in hexadecimal digits of either case, or `-` for none; an empty word isn't allowed
 unfoldable pub bytes_in_word : List ℕ → Option (List ℕ)
 bytes_in_word word =
     if bytes_eq word (codes "-") then Some []
@@ -136,7 +135,7 @@ alone_in name words =
     else if bytes_eq name (codes "show") then if_last words Show
     else None
 
--- the command of a name by which something is brought, or that is a command by itself
+-- the command of a name that delivers something, or that is a command by itself
 unfoldable pub bringing_in : List ℕ → List (List ℕ) → Option ScriptCommand
 bringing_in name words =
     if bytes_eq name (codes "bring") then bring_in words

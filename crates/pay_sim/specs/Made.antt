@@ -1,5 +1,5 @@
--- What the members of a script's group know by the events that were made, and what comes of one
--- event more.
+-- What the members of a script's group know from the events that were made, and what comes of one
+-- more event.
 use Rattle.std.specs.Prelude.{◌≡◌, ℕ, ◌<◌, ◌≤◌, nat_lt, Bool, true, false, not, ◌&&◌, ◌==◌, List}
 use Rattle.std.specs.Prelude.{[], length, slice_get, Option, Some, None, option_map, Result, Ok}
 use Rattle.std.specs.Prelude.{Err, MatchOption, if◌then◌else◌}
@@ -14,8 +14,8 @@ use Rattle.pay_member.specs.Bringing.{IsOutcome}
 use Rattle.pay_member.specs.Refusal.{refusal}
 use Rattle.pay_world.specs.declared.event.WorldEvent.{WorldEvent}
 use Rattle.pay_world.specs.declared.event.WorldEvent.TheVariants.{Ask, Bring}
-use Rattle.pay_world.specs.declared.reply.WorldReply.{WorldReply}
-use Rattle.pay_world.specs.declared.reply.WorldReply.TheVariants.{Asked, Refused, Brought, Ignored}
+use Rattle.pay_world.specs.declared.event.WorldReply.{WorldReply}
+use Rattle.pay_world.specs.declared.event.WorldReply.TheVariants.{Asked, Refused, Brought, Ignored}
 use Rattle.pay_world.specs.Setting.{is_correct}
 use Rattle.pay_world.specs.Genuine.{is_forged_in}
 use Rattle.pay_world.specs.Liars.{setting_of}
@@ -24,21 +24,21 @@ use Rattle.pay_world.specs.Run.{correct_keys, history_of}
 use Rattle.pay_world.specs.GroupKeys.{group_test_keys}
 use Rattle.pay_sim.specs.declared.group.ScriptGroup.{ScriptGroup}
 use Rattle.pay_sim.specs.declared.game.TheConstants.{MOST_EVENTS}
-use Rattle.pay_sim.specs.declared.stop.RunStop.{RunStop}
-use Rattle.pay_sim.specs.declared.stop.RunStop.TheVariants.{BadLine, Forged, Limit}
+use Rattle.pay_sim.specs.declared.run.RunStop.{RunStop}
+use Rattle.pay_sim.specs.declared.run.RunStop.TheVariants.{BadLine, Forged, Limit}
 use Rattle.pay_sim.specs.TestFrames.{test_frame}
 
 -- ---- what members know
 
--- whether a member is there and doesn't lie
+-- whether a member exists and isn't faulty
 abbrev pub is_there : ScriptGroup → ℕ → Bool
 is_there c i = is_correct (setting_of c.liars) i
 
--- its keys: all members have the test keys
+-- the keys of a member: all members have the test keys
 abbrev pub keys_at : ScriptGroup → ℕ → Option KeyFields
 keys_at c i = correct_keys (group_test_keys c.genesis.members) c.liars i
 
--- what it took of the events
+-- what a member accepted of the events
 abbrev pub history_at : ScriptGroup → List WorldEvent → ℕ → List Event
 history_at c es i = history_of (group_test_keys c.genesis.members) c.liars es i
 
@@ -52,19 +52,19 @@ sent_frame c es from to number =
     (slice_get (out (group_in c.genesis from) (history_at c es from)) number)
     else None
 
--- the same, where the other is a correct member; else no bytes
+-- this frame, if the other is a correct member; otherwise no bytes
 unfoldable pub frame_for : ScriptGroup → List WorldEvent → ℕ → ℕ → ℕ → Option (List ℕ)
 frame_for c es from to number =
     if is_there c to then sent_frame c es from to number else Some []
 
--- the number that a correct member takes next from another; 0 where there is no such link
+-- the number that a correct member expects next from another, or 0 if there is no such link
 unfoldable pub next_number : ScriptGroup → List WorldEvent → ℕ → ℕ → ℕ
 next_number c es from to =
     if nat_lt from c.genesis.members && not (from == to) && is_there c to
     then next from (history_at c es to)
     else 0
 
--- the frame that correct member `to` takes next of all that correct member `from` sent, if that is
+-- the frame that correct member `to` expects next of all that correct member `from` sent, if it is
 -- there
 unfoldable pub next_untaken : ScriptGroup → List WorldEvent → ℕ → ℕ → Option (List ℕ)
 next_untaken c es from to =
@@ -72,7 +72,7 @@ next_untaken c es from to =
 
 -- ---- what comes of an event
 
--- whether it brings a frame that the correct member which it names didn't send
+-- whether an event delivers a frame that the correct member which it names didn't send
 unfoldable pub is_forged_by : ScriptGroup → List WorldEvent → WorldEvent → Bool
 is_forged_by c es e =
     option_map_or (is_forged_in (setting_of c.liars) (history_at c es))
@@ -91,14 +91,14 @@ IsReplyAfter g k before (Ask i v) reply =
     reply ≡ answer_to_ask (refusal g k before (entry.Ask v)) (asks before)
 IsReplyAfter g k before (Bring i bytes) reply = IsBroughtTo g k before bytes reply
 
--- the reply to an event: that of the member to which it happens, if it is there
+-- the reply to an event: that of the member to which it happens, if the member exists
 abbrev pub IsReplyTo : ScriptGroup → List WorldEvent → WorldEvent → WorldReply → Type 0
 IsReplyTo c es e reply =
     MatchOption (keys_at c (receiver e)) (reply ≡ Ignored)
     (λ k. IsReplyAfter c.genesis k (history_at c es (receiver e)) e reply)
 
--- An event is made and has its reply; or the run stops before it, where as many as there may be
--- were made, or where it is forged.
+-- An event is made and has its reply. Or the run stops before it, since the limit of events is
+-- reached or the event is forged.
 -- page: `Makes`: what comes of a script's event after those before it
 abbrev pub Makes : ScriptGroup → List WorldEvent → WorldEvent → Result WorldReply RunStop → Type 0
 Makes c es e (Ok reply) =

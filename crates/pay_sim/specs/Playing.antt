@@ -3,15 +3,15 @@ use Rattle.std.specs.Prelude.{◌≡◌, ℕ, ◌<◌, Bool, true, false, List, 
 use Rattle.std.specs.Prelude.{Some, None, Result, Ok, Err, ⊤}
 use Rattle.pay_member.specs.Member.{MemberFields}
 use Rattle.pay_world.specs.declared.event.WorldEvent.{WorldEvent}
-use Rattle.pay_world.specs.declared.reply.WorldReply.{WorldReply}
+use Rattle.pay_world.specs.declared.event.WorldReply.{WorldReply}
 use Rattle.pay_world.specs.World.{WorldFields, member_in}
 use Rattle.pay_world.specs.Run.{IsWorldAfter}
 use Rattle.pay_world.specs.GroupKeys.{group_test_keys}
 use Rattle.pay_sim.specs.declared.group.ScriptGroup.{ScriptGroup}
-use Rattle.pay_sim.specs.declared.stop.Halt.{Halt}
-use Rattle.pay_sim.specs.declared.stop.Halt.TheVariants as halt
-use Rattle.pay_sim.specs.declared.stop.RunStop.{RunStop}
-use Rattle.pay_sim.specs.declared.stop.RunStop.TheVariants.{BadLine}
+use Rattle.pay_sim.specs.declared.run.Halt.{Halt}
+use Rattle.pay_sim.specs.declared.run.Halt.TheVariants as halt
+use Rattle.pay_sim.specs.declared.run.RunStop.{RunStop}
+use Rattle.pay_sim.specs.declared.run.RunStop.TheVariants.{BadLine}
 use Rattle.pay_sim.specs.Group.{script_group_in}
 use Rattle.pay_sim.specs.Made.{Makes}
 use Rattle.pay_sim.specs.Script.{Told, Prints, Stops, Moment, Does, PlaysLine}
@@ -24,7 +24,7 @@ pub record GameFields : Type 0 where
   pub members : ℕ
   pub made : ℕ
 
--- It is the world of this group after these events.
+-- The game is the world of this group after these events.
 pub record IsAfter (c : ScriptGroup) (es : List WorldEvent) (g : GameFields) : Type 0 where
   pub after : IsWorldAfter c.genesis (group_test_keys c.genesis.members) c.liars es g.world
   pub each : (i : ℕ) (m : MemberFields) → member_in g.world i ≡ Some m → m.genesis ≡ c.genesis
@@ -32,13 +32,13 @@ pub record IsAfter (c : ScriptGroup) (es : List WorldEvent) (g : GameFields) : T
   pub few : c.genesis.members < 256
   pub made : g.made ≡ length es
 
--- It is the world of some group after some events: so all its members have the test keys.
+-- The game is the world of some group after some events, so all its members have the test keys.
 pub record IsGame (g : GameFields) : Type 0 where
   pub group : ScriptGroup
   pub events : List WorldEvent
   pub behind : IsAfter group events g
 
--- an event more was made, or not
+-- one more event was made, or not
 abbrev pub IsMade : ScriptGroup → List WorldEvent → WorldEvent → GameFields → Result WorldReply Halt
     → Type 0
 IsMade c es e new (Ok reply) = Makes c es e (Ok reply) × IsAfter c (es ++ e ∷ []) new
@@ -54,7 +54,7 @@ IsDone does c before after new (Ok _) =
 IsDone does c before after new (Err (halt.Stop stop)) = does (Stops stop)
 IsDone does c before after new (Err halt.Memory) = Unit {0}
 
--- frames were brought
+-- frames were delivered
 abbrev pub HasBrought : (List WorldEvent → Option RunStop → Type 0) → ScriptGroup → GameFields
     → Result ⊤ Halt → Type 0
 HasBrought does c new (Ok _) = (last : List WorldEvent) × does last None × IsAfter c last new
@@ -82,13 +82,13 @@ IsGameAt None (Some c) es = ⊥
 IsGameAt (Some g) None es = ⊥
 IsGameAt (Some g) (Some c) es = IsAfter c es g
 
--- a script that goes on has come so far
+-- a script that continues has come to this moment
 pub record IsPlaying (p : PlayFields) (m : Moment) : Type 0 where
   pub lines : p.lines ≡ m.lines
   pub stop : p.stop ≡ m.stopped
   pub game : IsGameAt p.game m.group m.events
 
--- and one that is stopped
+-- a script that is stopped has come to this moment
 pub record IsStopped (p : PlayFields) (m : Moment) : Type 0 where
   pub lines : p.lines ≡ m.lines
   pub stop : p.stop ≡ m.stopped
@@ -97,13 +97,13 @@ abbrev pub IsAt : Bool → PlayFields → Moment → Type 0
 IsAt true p m = IsPlaying p m
 IsAt false p m = IsStopped p m
 
--- the world that a script's first line says, before any event
+-- the world of a script's first line, before any event
 abbrev pub IsFounded : List ℕ → Result GameFields Halt → Type 0
 IsFounded line (Ok g) = (c : ScriptGroup) × (script_group_in line ≡ Some c) × IsAfter c [] g
 IsFounded line (Err (halt.Stop stop)) = (stop ≡ BadLine) × (script_group_in line ≡ None)
 IsFounded line (Err halt.Memory) = Unit {0}
 
--- what a line does where the script has come to this group and these events
+-- what a line does if the script has come to this group and these events
 abbrev pub IsRead : Option ScriptGroup → List WorldEvent → Option (List ℕ) → List ℕ → List ℕ
     → Option GameFields → Result ⊤ Halt → Type 0
 IsRead group es line before after new (Ok _) =
@@ -113,12 +113,12 @@ IsRead group es line before after new (Err (halt.Stop stop)) =
     (then : Option ScriptGroup) × Does group es line then (Stops stop)
 IsRead group es line before after new (Err halt.Memory) = Unit {0}
 
--- A line is answered as a script's is, however far it has come.
+-- A line is answered as a script's is, whatever moment the script has come to.
 abbrev pub IsPlayAnswer : PlayFields → Option (List ℕ) → List ℕ → Bool → PlayFields → Type 0
 IsPlayAnswer old line text on new =
     (m : Moment) → IsPlaying old m → (n : Moment) × PlaysLine m line text on n × IsAt on new n
 
--- Where memory is refused a script ends for good, and its world is dropped: so nothing is said of
+-- If memory runs out a script ends for good, and its world is dropped, so nothing is said about
 -- what it became.
 abbrev pub MayBeAny : PlayFields → PlayFields → Type 0
 MayBeAny old new = Unit {0}

@@ -1,15 +1,15 @@
--- What holds of scripts and their runs, as statements. Each is proved as a public law.
+-- Statements about scripts and their runs. Each is proved as a public law.
 use Rattle.std.specs.Prelude.{◌≡◌, ◌⊎◌, ℕ, List, ◌++◌, slice_get, take, Option, Some, None, Ok}
 use Rattle.pay_link.specs.Genesis.{IsGenesis}
-use Rattle.pay_member.specs.declared.outcome.Outcome.TheVariants.{Took}
-use Rattle.pay_member.specs.declared.took.Took as took
+use Rattle.pay_member.specs.declared.bringing.Outcome.TheVariants.{Took}
+use Rattle.pay_member.specs.declared.event.Took as took
 use Rattle.pay_world.specs.declared.event.WorldEvent.{WorldEvent}
-use Rattle.pay_world.specs.declared.reply.WorldReply.TheVariants.{Brought}
+use Rattle.pay_world.specs.declared.event.WorldReply.TheVariants.{Brought}
 use Rattle.pay_world.specs.Liars.{AreLiars, AreLiarsOf}
 use Rattle.pay_sim.specs.declared.group.ScriptGroup.{ScriptGroup}
-use Rattle.pay_sim.specs.declared.sim_end.SimEnd.{SimEnd}
-use Rattle.pay_sim.specs.declared.stop.RunStop.{RunStop}
-use Rattle.pay_sim.specs.declared.stop.RunStop.TheVariants.{Limit}
+use Rattle.pay_sim.specs.declared.run.SimEnd.{SimEnd}
+use Rattle.pay_sim.specs.declared.run.RunStop.{RunStop}
+use Rattle.pay_sim.specs.declared.run.RunStop.TheVariants.{Limit}
 use Rattle.pay_sim.specs.All.{BringsAll}
 use Rattle.pay_sim.specs.Group.{script_group_in}
 use Rattle.pay_sim.specs.Made.{Makes}
@@ -24,13 +24,13 @@ OneRun =
     → IsRun script other end
     → (text ≡ other) × (ended ≡ end)
 
--- Each script prints one.
+-- Each script prints a text.
 abbrev pub EachRuns : Type 0
 EachRuns = (script : List ℕ) → (text : List ℕ) × (ended : SimEnd) × IsRun script text ended
 
 -- ---- its group
 
--- within the limits of a genesis and of its liars
+-- within the limits of a genesis and of its faulty members
 pub record IsGroup (c : ScriptGroup) : Type 0 where
   pub genesis : IsGenesis c.genesis
   pub liars : AreLiars c.liars
@@ -39,15 +39,15 @@ pub record IsGroup (c : ScriptGroup) : Type 0 where
 abbrev pub FirstLineIsGroup : Type 0
 FirstLineIsGroup = (line : List ℕ) (c : ScriptGroup) → script_group_in line ≡ Some c → IsGroup c
 
--- ---- what `all` brings
+-- ---- what `all` delivers
 
--- After these events those are brought, and each is a frame that its receiver takes.
+-- After these events those are delivered, and each is a frame that its receiver accepts.
 pub record AreTaken (c : ScriptGroup) (es brought : List WorldEvent) : Type 0 where
   pub each :
       (k : ℕ) (e : WorldEvent) → slice_get brought k ≡ Some e
       → (t : took.Took) × Makes c (es ++ take k brought) e (Ok (Brought (Took t)))
 
--- All that `all` brings is taken, and nothing but the limit stops it.
+-- All that `all` delivers is accepted, and only the limit stops it.
 abbrev pub AllIsTaken : Type 0
 AllIsTaken =
     (c : ScriptGroup) (es last : List WorldEvent) (stop : Option RunStop) → IsGroup c

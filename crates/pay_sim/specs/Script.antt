@@ -4,8 +4,8 @@ use Rattle.std.specs.Prelude.{codes, decimal, Option, Some, None, Ok, Err, Resul
 use Rattle.std.specs.Prelude.{if◌then◌else◌}
 use Rattle.std.specs.List.{flat_map, range_with_len}
 use Rattle.std.specs.Io.KnownBytes.{Appends, IsAtEnd}
-use Rattle.pay_io.specs.declared.stream_fault.StreamFault.{StreamFault}
-use Rattle.pay_io.specs.Device.{WroteBeginning}
+use Rattle.pay_frame.specs.declared.device.StreamFault.{StreamFault}
+use Rattle.pay_frame.specs.Device.{WroteBeginning}
 use Rattle.pay_frame.specs.Frame.{BodyFields}
 use Rattle.pay_member.specs.Book.{book_after}
 use Rattle.pay_text.specs.Answers.{Answers}
@@ -13,7 +13,7 @@ use Rattle.pay_text.specs.Engine.{Answering, AnswersFirst}
 use Rattle.pay_text.specs.Lines.{line_feed, lines_within}
 use Rattle.pay_world.specs.declared.event.WorldEvent.{WorldEvent}
 use Rattle.pay_world.specs.declared.event.WorldEvent.TheVariants as event
-use Rattle.pay_world.specs.declared.reply.WorldReply.{WorldReply}
+use Rattle.pay_world.specs.declared.event.WorldReply.{WorldReply}
 use Rattle.pay_world.specs.Answer.{one_more, receiver}
 use Rattle.pay_world.specs.Convergence.{AllTaken}
 use Rattle.pay_world.specs.Liars.{setting_of}
@@ -22,10 +22,10 @@ use Rattle.pay_sim.specs.declared.command.ScriptCommand.TheVariants.{Ask, Bring,
 use Rattle.pay_sim.specs.declared.command.ScriptCommand.TheVariants.{Show}
 use Rattle.pay_sim.specs.declared.group.ScriptGroup.{ScriptGroup}
 use Rattle.pay_sim.specs.declared.run.TheConstants.{LONGEST_LINE}
-use Rattle.pay_sim.specs.declared.sim_end.SimEnd.{SimEnd}
-use Rattle.pay_sim.specs.declared.sim_end.SimEnd.TheVariants as end
-use Rattle.pay_sim.specs.declared.stop.RunStop.{RunStop}
-use Rattle.pay_sim.specs.declared.stop.RunStop.TheVariants.{BadLine, Forged, Limit}
+use Rattle.pay_sim.specs.declared.run.SimEnd.{SimEnd}
+use Rattle.pay_sim.specs.declared.run.SimEnd.TheVariants as end
+use Rattle.pay_sim.specs.declared.run.RunStop.{RunStop}
+use Rattle.pay_sim.specs.declared.run.RunStop.TheVariants.{BadLine, Forged, Limit}
 use Rattle.pay_sim.specs.Commands.{script_command_in}
 use Rattle.pay_sim.specs.Words.{member_words, reply_line}
 use Rattle.pay_sim.specs.TestFrames.{test_frame}
@@ -38,7 +38,7 @@ with_feed words = words ++ line_feed ∷ []
 
 -- ---- what a command does
 
--- What a line does: it prints this, and all events are then these; or it stops the run.
+-- What a line does. It prints this, and all events are then these, or it stops the run.
 pub data Told : Type 0 where
   Prints : List ℕ → List WorldEvent → Told
   Stops : RunStop → Told
@@ -50,16 +50,16 @@ Tells c es e (Prints text last) =
     × (last ≡ es ++ e ∷ [])
 Tells c es e (Stops stop) = Makes c es e (Err stop)
 
--- the frame at that place is brought, if it is there
+-- the frame at that place is delivered, if it exists
 abbrev pub TellsSent : ScriptGroup → List WorldEvent → ℕ → Option (List ℕ) → Told → Type 0
 TellsSent c es to None told = told ≡ Prints (with_feed (codes "absent")) es
 TellsSent c es to (Some frame) told = Tells c es (event.Bring to frame) told
 
--- to a liar, and where there is no member, no bytes are brought
+-- no bytes are delivered to a faulty member, or if there is no member
 abbrev pub TellsBring : ScriptGroup → List WorldEvent → ℕ → ℕ → ℕ → Told → Type 0
 TellsBring c es from to number told = TellsSent c es to (frame_for c es from to number) told
 
--- the number that a lie says, or the next one
+-- the number in a command for a forged frame, or the next one
 abbrev pub lie_number : ScriptGroup → List WorldEvent → ℕ → ℕ → Option ℕ → ℕ
 lie_number c es from to (Some number) = number
 lie_number c es from to None = next_number c es from to
@@ -67,13 +67,13 @@ lie_number c es from to None = next_number c es from to
 abbrev pub lie_frame : ScriptGroup → List WorldEvent → ℕ → ℕ → Option ℕ → BodyFields → List ℕ
 lie_frame c es from to number body = test_frame from to (lie_number c es from to number) body
 
--- a line more, where each member that doesn't lie took all that the others sent
+-- one more line, if each member that isn't faulty accepted all that the others sent
 abbrev pub IsConverged : ScriptGroup → List WorldEvent → List ℕ → Type 0
 IsConverged c es words =
     (AllTaken (setting_of c.liars) (history_at c es) × (words ≡ with_feed (codes "converged")))
     ⊎ (¬ (AllTaken (setting_of c.liars) (history_at c es)) × (words ≡ []))
 
--- all is brought, and how many frames that were is printed
+-- all is delivered, and the count of frames is printed
 abbrev pub TellsAll : ScriptGroup → List WorldEvent → Told → Type 0
 TellsAll c es (Prints text last) =
     BringsAll c es last None
@@ -81,14 +81,14 @@ TellsAll c es (Prints text last) =
     × (text ≡ codes "brought " ++ with_feed (decimal (length last - length es)) ++ words))
 TellsAll c es (Stops stop) = (last : List WorldEvent) × BringsAll c es last (Some stop)
 
--- the book of a member that is there
+-- the ledger of a member that exists
 abbrev pub shown_member : ScriptGroup → List WorldEvent → ℕ → List ℕ
 shown_member c es i =
     if is_there c i
     then with_feed (member_words c.genesis.members i (book_after c.genesis i (history_at c es i)))
     else []
 
--- those of all members, in the order of their numbers
+-- the ledgers of all members, in the order of their numbers
 unfoldable pub show_text : ScriptGroup → List WorldEvent → List ℕ
 show_text c es = flat_map (shown_member c es) (range_with_len 0 c.genesis.members)
 
@@ -110,10 +110,10 @@ abbrev pub LineTells : ScriptGroup → List WorldEvent → List ℕ → Told →
 LineTells c es [] told = told ≡ Prints [] es
 LineTells c es (b ∷ line) told = CommandTells c es (script_command_in (b ∷ line)) told
 
--- ---- how far a script has come
+-- ---- the moments of a script
 
--- So many lines were read; the first said this group; these events were made; and this stopped the
--- run, if anything did.
+-- The count of lines that were read, the group of the first line, the events that were made, and
+-- what stopped the run, if anything did.
 pub record Moment : Type 0 where
   pub lines : ℕ
   pub group : Option ScriptGroup
@@ -130,14 +130,14 @@ end_of (Some BadLine) = end.BadLine
 end_of (Some (Forged k)) = end.Forged
 end_of (Some Limit) = end.Limit
 
--- the last line of one that is stopped
+-- the last line of a run that is stopped
 abbrev pub last_words : RunStop → ℕ → List ℕ
 last_words BadLine line = codes "bad line " ++ decimal line
 last_words (Forged k) line = codes "forged " ++ decimal k
 last_words Limit line = codes "limit"
 
--- What a line does, and the group that the script then has: the first line says it, and each other
--- one is a command. A line over the bound is neither.
+-- What a line does, and the group that the script then has: the first line contains it, and each
+-- other line is a command. A line over the bound is neither.
 
 abbrev pub Founds : List WorldEvent → Option ScriptGroup → Option ScriptGroup → Told → Type 0
 Founds es None after told = (told ≡ Stops BadLine) × (after ≡ None)
@@ -149,7 +149,7 @@ Does group es None after told = (told ≡ Stops BadLine) × (after ≡ group)
 Does None es (Some line) after told = Founds es (script_group_in line) after told
 Does (Some c) es (Some line) after told = LineTells c es line told × (after ≡ Some c)
 
--- It prints this text, a line may follow or not, and so far the script has come then.
+-- The line prints this text, a line may follow or not, and the script has come to this moment.
 abbrev pub Continues : Moment → Option ScriptGroup → Told → List ℕ → Bool → Moment → Type 0
 Continues old group (Prints words last) text on new =
     (text ≡ words) × (on ≡ true)
@@ -165,11 +165,11 @@ PlaysLine old line text on new =
 
 -- ---- the whole run
 
--- A script without any line has a bad first one.
+-- A script without lines has a bad first line.
 abbrev pub no_line : List ℕ
 no_line = with_feed (codes "bad line 1")
 
--- The run of a script prints this text, and ends so.
+-- The run of a script prints this text, and has this end.
 abbrev pub IsRun : List ℕ → List ℕ → SimEnd → Type 0
 IsRun [] text ended = (text ≡ no_line) × (ended ≡ end.BadLine)
 IsRun (b ∷ script) text ended =
@@ -177,11 +177,12 @@ IsRun (b ∷ script) text ended =
     × Answers PlaysLine start (lines_within LONGEST_LINE (b ∷ script)) text on last
     × (ended ≡ end_of last.stopped)
 
--- so a script's lines are answered, and it is as it was where memory is refused
+-- how a script's lines are answered; it is unchanged if memory runs out
 abbrev pub script_answering : Answering Moment
 script_answering = record { says = PlaysLine; gives_up = λ mid last. last ≡ mid }
 
--- It was broken off: what was written is a prefix of the text that a script's first lines print.
+-- The run was broken off: what was written is a prefix of the text that a script's first lines
+-- print.
 abbrev pub IsRunBegun : List ℕ → Option (List ℕ) → Option (List ℕ) → Type 0
 IsRunBegun [] before after = WroteBeginning before after no_line
 IsRunBegun (b ∷ script) before after =
@@ -189,7 +190,7 @@ IsRunBegun (b ∷ script) before after =
     × AnswersFirst script_answering (lines_within LONGEST_LINE (b ∷ script))
     (record { answerer = start; written = before }) (record { answerer = n; written = after })
 
--- What the engine writes, where its input is known. It ends as done only at the input's end.
+-- What the loop writes, if its input is known. It ends as done only at the input's end.
 abbrev pub WritesRun : Option (List ℕ) → Option (List ℕ) → Option (List ℕ) → Option (List ℕ)
     → Result SimEnd StreamFault → Type 0
 WritesRun input left before after (Ok ended) =

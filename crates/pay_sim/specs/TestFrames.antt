@@ -5,7 +5,7 @@ use Rattle.pay_hmac.specs.Mac.{mac}
 use Rattle.pay_link.specs.Sealing.{tagged_bytes}
 use Rattle.pay_link.specs.TestKeys.{pair_key}
 
--- its right tag under the test key of the two members
+-- the right tag of a frame under the test key of the two members
 unfoldable pub test_tag : ℕ → ℕ → ℕ → BodyFields → List ℕ
 test_tag from to number body = mac (pair_key from to) (tagged_bytes from to number body)
 

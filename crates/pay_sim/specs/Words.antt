@@ -6,17 +6,17 @@ use Rattle.pay_frame.specs.Fault.{fault_number, name_of}
 use Rattle.pay_link.specs.Words.{link_words}
 use Rattle.pay_book.specs.Book.{Standing}
 use Rattle.pay_member.specs.declared.fault.MemberFault.TheVariants as member
-use Rattle.pay_member.specs.declared.outcome.Outcome.{Outcome}
-use Rattle.pay_member.specs.declared.outcome.Outcome.TheVariants.{Took, Wanted, Frame, Link}
-use Rattle.pay_member.specs.declared.outcome.Outcome.TheVariants.{WrongKey}
-use Rattle.pay_member.specs.declared.took.Took as took
+use Rattle.pay_member.specs.declared.bringing.Outcome.{Outcome}
+use Rattle.pay_member.specs.declared.bringing.Outcome.TheVariants.{Took, Wanted, Frame, Link}
+use Rattle.pay_member.specs.declared.bringing.Outcome.TheVariants.{WrongKey}
+use Rattle.pay_member.specs.declared.event.Took as took
 use Rattle.pay_member.specs.Book.{book_after}
 use Rattle.pay_member.specs.Events.{events}
 use Rattle.pay_member.specs.Member.{MemberFields}
 use Rattle.pay_member.specs.Faults.{member_fault_number, member_fault_name}
 use Rattle.pay_text.specs.Lines.{line_feed}
-use Rattle.pay_world.specs.declared.reply.WorldReply.{WorldReply}
-use Rattle.pay_world.specs.declared.reply.WorldReply.TheVariants as reply
+use Rattle.pay_world.specs.declared.event.WorldReply.{WorldReply}
+use Rattle.pay_world.specs.declared.event.WorldReply.TheVariants as reply
 
 -- `refused WHERE C NAME`
 unfoldable pub refused_words_at : List ℕ → ℕ → List ℕ → List ℕ
@@ -26,7 +26,7 @@ refused_words_at at number name =
 abbrev pub if_so : Bool → List ℕ → List ℕ
 if_so so words = if so then words else []
 
--- ` settle K`, where some entry settled
+-- ` settle K`, if some entry settled
 abbrev pub settle_words : ℕ → List ℕ
 settle_words settled = if settled == 0 then [] else codes " settle " ++ decimal settled
 
@@ -36,7 +36,7 @@ took_words t =
     codes "took" ++ if_so t.echo (codes " echo") ++ if_so t.ready (codes " ready")
     ++ if_so t.deliver (codes " deliver") ++ settle_words t.settled
 
--- what came of bytes that were brought to a member
+-- what came of bytes that were delivered to a member
 unfoldable pub outcome_words : Outcome → List ℕ
 outcome_words (Took t) = took_words t
 outcome_words (Wanted from number) = codes "wanted " ++ decimal from ++ codes " " ++ decimal number
@@ -57,7 +57,7 @@ reply_words i reply.Ignored = codes "ignored"
 unfoldable pub reply_line : ℕ → WorldReply → List ℕ
 reply_line i r = reply_words i r ++ line_feed ∷ []
 
--- the book that a member shows
+-- the ledger that a member shows
 abbrev pub shown_book : MemberFields → Standing
 shown_book m = book_after m.genesis m.keys.own (events m.history)
 

@@ -1,24 +1,23 @@
-//! A script's world, and what its commands do there.
+//! The world of a script, and what its commands do there.
 
-ghost use Rattle.std.specs.Prelude.{◌≡◌, ◌+◌, ◌++◌, ◌<◌, ◌≤◌, ℕ, List};
-ghost use Rattle.std.specs.Prelude.{[], IfOk, IfSome, OnOk, option_map};
-ghost use Rattle.pay_world.specs.declared.event.WorldEvent.{WorldEvent};
+ghost use Rattle.std.specs.Prelude.{◌≡◌, ◌+◌, ◌++◌, ◌<◌, ◌≤◌, ℕ, List, [], IfOk, IfSome, OnOk};
+ghost use Rattle.std.specs.Prelude.{option_map};
+ghost use Rattle.pay_sim.specs.All.{BringsAll, Draws, FeedsMember, MakesPass};
+ghost use Rattle.pay_sim.specs.Made.{frame_for, next_number, sent_frame, next_untaken};
+ghost use Rattle.pay_sim.specs.Playing.{IsAfter, HasBrought, IsDone, IsMade};
+ghost use Rattle.pay_sim.specs.Script.{IsConverged, Obeys, Tells, TellsAll, TellsBring, lie_frame};
+ghost use Rattle.pay_sim.specs.Script.{lie_number, show_text, shown_member};
+ghost use Rattle.pay_sim.specs.declared.group.ScriptGroup.{ScriptGroup};
 ghost use Rattle.pay_world.specs.Answer.{receiver};
 ghost use Rattle.pay_world.specs.Liars.{AreLiarsOf};
 ghost use Rattle.pay_world.specs.Passing.{MayPass, frame_of, passing};
-ghost use Rattle.pay_sim.specs.declared.group.ScriptGroup.{ScriptGroup};
-ghost use Rattle.pay_sim.specs.Made.{frame_for, next_number, sent_frame, next_untaken};
-ghost use Rattle.pay_sim.specs.All.{BringsAll, Draws, FeedsMember, MakesPass};
-ghost use Rattle.pay_sim.specs.Script.{IsConverged, Obeys, Tells, TellsAll, TellsBring};
-ghost use Rattle.pay_sim.specs.Script.{lie_frame, lie_number, show_text, shown_member};
-ghost use Rattle.pay_sim.specs.Playing.{IsAfter, HasBrought, IsDone, IsMade};
+ghost use Rattle.pay_world.specs.declared.event.WorldEvent.{WorldEvent};
 
-use crate::book_words::push_book;
 use crate::command::ScriptCommand;
 use crate::group::ScriptGroup;
-use crate::reply_words::push_reply;
-use crate::stop::{Halt, RunStop};
+use crate::run::{Halt, RunStop};
 use crate::test_frames::{PairTagger, test_frame};
+use crate::words::{push_book, push_reply};
 use pay_book::Settle;
 use pay_echo::Instance;
 use pay_frame::{Body, Bytes};
@@ -31,10 +30,10 @@ use pay_world::{
 use std::alloc::{AllocError, Global};
 use std::marker::Model;
 
-/// How many events a script makes at most.
+/// The most events that a script makes.
 pub const MOST_EVENTS: u32 = 1_000_000;
 
-/// The world of a script, and how many events were made in it.
+/// The world of a script, and the count of events that were made in it.
 #[derive(Drop)]
 pub(crate) struct Game<I: Instance + Drop, B: Settle + Drop> {
     world: World<I, B>,
@@ -57,7 +56,7 @@ impl<I: Instance + Drop, B: Settle + Drop> Model for Game<I, B> {
 }
 
 impl<I: Instance + Drop, B: Settle + Drop> Game<I, B> {
-    /// The world of a group before any event.
+    /// Creates the world of a group before any event.
     pub(crate) fn new(alloc: Global, group: &ScriptGroup) -> Result<Game<I, B>, AllocError>
         requires { AreLiarsOf group.now.genesis group.now.liars }
         ensures { IfOk result (λ game. IsAfter group.now [] game) }
@@ -74,7 +73,7 @@ impl<I: Instance + Drop, B: Settle + Drop> Game<I, B> {
         })
     }
 
-    /// Does what a command says, and writes its lines.
+    /// Does what `command` says, and appends its lines to `out`.
     pub(crate) fn obey(
         &mut self,
         alloc: Global,
@@ -108,7 +107,7 @@ impl<I: Instance + Drop, B: Settle + Drop> Game<I, B> {
         }
     }
 
-    /// How many events were made.
+    /// Returns how many events were made.
     fn made_count(&self) -> u32
         ensures value { result ≡ self.now.made }
         ensures limit { self.now.made ≤ MOST_EVENTS }
@@ -116,7 +115,7 @@ impl<I: Instance + Drop, B: Settle + Drop> Game<I, B> {
         self.made
     }
 
-    /// Makes an event, unless there were as many as there may be.
+    /// Makes an event, unless the limit of events is reached.
     fn make(&mut self, alloc: Global, event: WorldEvent) -> Result<WorldReply, Halt>
         ensures made { (c : ScriptGroup) (es : List WorldEvent) → IsAfter c es self.old
             → IsMade c es event self.new result }
@@ -138,7 +137,7 @@ impl<I: Instance + Drop, B: Settle + Drop> Game<I, B> {
         }
     }
 
-    /// Makes an event, and writes what its member replied.
+    /// Makes an event, and appends what its member replied to `out`.
     fn tell(&mut self, alloc: Global, event: WorldEvent, out: &mut Vec<u8>) -> Result<(), Halt>
         ensures { (c : ScriptGroup) (es : List WorldEvent) → IsAfter c es self.old
             → IsDone (Tells c es event) c out.old.items out.new.items self.new result }
@@ -203,7 +202,8 @@ impl<I: Instance + Drop, B: Settle + Drop> Game<I, B> {
         }
     }
 
-    /// Brings all that is untaken between correct members, and writes how many frames that were.
+    /// Delivers all that correct members didn't accept yet of each other, and appends the count of
+    /// these frames to `out`.
     fn all(&mut self, alloc: Global, out: &mut Vec<u8>) -> Result<(), Halt>
         ensures { (c : ScriptGroup) (es : List WorldEvent) → IsAfter c es self.old
             → IsDone (TellsAll c es) c out.old.items out.new.items self.new result }
@@ -218,7 +218,7 @@ impl<I: Instance + Drop, B: Settle + Drop> Game<I, B> {
         Ok(())
     }
 
-    /// Writes whether each correct member took all that the others sent.
+    /// Appends whether each correct member accepted all that the others sent to `out`.
     fn push_converged(&self, out: &mut Vec<u8>) -> Result<(), AllocError>
         ensures { OnOk result ((c : ScriptGroup) (es : List WorldEvent) → IsAfter c es self.now
             → (words : List ℕ) × IsConverged c es words
@@ -231,8 +231,8 @@ impl<I: Instance + Drop, B: Settle + Drop> Game<I, B> {
         }
     }
 
-    /// Lets each member take what it didn't yet of the others, again and again, until nothing is
-    /// left.
+    /// Delivers to each member what it didn't accept yet of the others, again and again, until
+    /// nothing is left.
     fn bring_all(&mut self, alloc: Global) -> Result<(), Halt>
         ensures brought { (c : ScriptGroup) (es : List WorldEvent) → IsAfter c es self.old
             → HasBrought (BringsAll c es) c self.new result }
@@ -247,7 +247,7 @@ impl<I: Instance + Drop, B: Settle + Drop> Game<I, B> {
         }
     }
 
-    /// Lets each member take what it didn't yet of the others.
+    /// Delivers to each member what it didn't accept yet of the others.
     fn pass(&mut self, alloc: Global) -> Result<(), Halt>
         ensures brought { (c : ScriptGroup) (es : List WorldEvent) → IsAfter c es self.old
             → HasBrought (MakesPass c es) c self.new result }
@@ -259,7 +259,7 @@ impl<I: Instance + Drop, B: Settle + Drop> Game<I, B> {
         Ok(())
     }
 
-    /// Lets a member take what it didn't yet of the others.
+    /// Delivers to the member `to` what it didn't accept yet of the others.
     fn feed(&mut self, alloc: Global, to: u16) -> Result<(), Halt>
         requires { to < 256 }
         ensures brought { (c : ScriptGroup) (es : List WorldEvent) → IsAfter c es self.old
@@ -272,7 +272,7 @@ impl<I: Instance + Drop, B: Settle + Drop> Game<I, B> {
         Ok(())
     }
 
-    /// Lets a member take what it didn't yet of another.
+    /// Delivers to the member `to` what it didn't accept yet of the member `from`.
     fn draw(&mut self, alloc: Global, from: u16, to: u16) -> Result<(), Halt>
         requires from { from < 256 }
         requires to { to < 256 }
@@ -288,8 +288,8 @@ impl<I: Instance + Drop, B: Settle + Drop> Game<I, B> {
         }
     }
 
-    /// Passes on a frame that one correct member sent another, unless there were as many events as
-    /// there may be.
+    /// Passes on a frame that a correct member sent to another, unless the limit of events is
+    /// reached.
     fn pass_on(
         &mut self,
         alloc: Global,
@@ -318,7 +318,8 @@ impl<I: Instance + Drop, B: Settle + Drop> Game<I, B> {
         }
     }
 
-    /// The number of the frame that a member takes next of another's list, if the list has it.
+    /// Returns the number of the frame that the member `to` expects next of the list of `from`, if
+    /// the list has it.
     fn next_untaken(&self, from: u16, to: u16) -> Option<u64>
         ensures frame { (c : ScriptGroup) (es : List WorldEvent) → IsAfter c es self.now
             → option_map (frame_of self.now.world from to) result ≡ next_untaken c es from to }
@@ -341,8 +342,8 @@ impl<I: Instance + Drop, B: Settle + Drop> Game<I, B> {
         }
     }
 
-    /// The frame at a place of a correct member's list, sealed for another; where that one is no
-    /// correct member, no bytes.
+    /// Returns the frame at a place of a correct member's list, encoded for the member `to`. If
+    /// `to` is no correct member, it returns no bytes.
     fn frame_for(
         &self,
         alloc: Global,
@@ -361,7 +362,7 @@ impl<I: Instance + Drop, B: Settle + Drop> Game<I, B> {
         }
     }
 
-    /// The frame at a place of a correct member's list, sealed for another.
+    /// Returns the frame at a place of a correct member's list, encoded for the member `to`.
     fn frame_sent(
         &self,
         alloc: Global,
@@ -386,7 +387,8 @@ impl<I: Instance + Drop, B: Settle + Drop> Game<I, B> {
         }
     }
 
-    /// The number that a correct member takes next from another, or 0 where there is no such link.
+    /// Returns the number that the correct member `to` expects next from `from`, or 0 if there is
+    /// no such link.
     fn next(&self, from: u16, to: u16) -> u64
         ensures { (c : ScriptGroup) (es : List WorldEvent) → IsAfter c es self.now
             → result ≡ next_number c es from to }
@@ -400,7 +402,7 @@ impl<I: Instance + Drop, B: Settle + Drop> Game<I, B> {
         receiver.next(from)
     }
 
-    /// Writes the book of each correct member.
+    /// Appends the ledger of each correct member to `out`.
     fn show(&self, out: &mut Vec<u8>) -> Result<(), AllocError>
         ensures { OnOk result ((c : ScriptGroup) (es : List WorldEvent) → IsAfter c es self.now
             → out.new.items ≡ out.old.items ++ show_text c es) }
@@ -411,7 +413,7 @@ impl<I: Instance + Drop, B: Settle + Drop> Game<I, B> {
         Ok(())
     }
 
-    /// Writes the book of a member, if it is correct.
+    /// Appends the ledger of a member to `out`, if it is correct.
     fn push_shown(&self, out: &mut Vec<u8>, number: u16) -> Result<(), AllocError>
         ensures { OnOk result ((c : ScriptGroup) (es : List WorldEvent) → IsAfter c es self.now
             → out.new.items ≡ out.old.items ++ shown_member c es number) }

@@ -1,4 +1,4 @@
-//! The first line of a script: a group, and who of it lies.
+//! The first line of a script: a group, and its faulty members.
 
 ghost use Rattle.std.specs.Prelude.{◌≡◌, IfOk, IfSome, option_map};
 ghost use Rattle.pay_world.specs.Liars.{AreLiarsOf};
@@ -15,7 +15,7 @@ pub(crate) struct ScriptGroup {
     pub(crate) liars: Liars,
 }
 
-/// The group that a file of JSON says, or `None` where it says none.
+/// Returns the group that `bytes`, a file of JSON, contain, or `None` if they contain none.
 #[tactic(auto, unfolding(crate::specs::Group::script_group_in, crate::specs::Group::with_liars))]
 pub(crate) fn read_group(alloc: Global, bytes: &[u8]) -> Result<Option<ScriptGroup>, AllocError>
     ensures value { IfOk result (λ group. group ≡ script_group_in bytes.now) }
@@ -36,7 +36,7 @@ pub(crate) fn read_group(alloc: Global, bytes: &[u8]) -> Result<Option<ScriptGro
     }
 }
 
-/// The liars that a file of JSON says, where each could be a member's number.
+/// Returns the faulty members that a file of JSON contains, if each could be a member's number.
 #[tactic(auto, unfolding(crate::specs::Group::liars_said))]
 fn liars_said(alloc: Global, bytes: &[u8]) -> Result<Option<Vec<u16>>, AllocError>
     ensures { IfOk result (λ said. option_map (λ liars. liars.items) said
@@ -51,7 +51,7 @@ fn liars_said(alloc: Global, bytes: &[u8]) -> Result<Option<Vec<u16>>, AllocErro
     as_members(alloc, numbers.as_slice())
 }
 
-/// The same numbers in 16 bits, where they fit.
+/// Returns `numbers` in 16 bits, if they fit.
 fn as_members(alloc: Global, numbers: &[u64]) -> Result<Option<Vec<u16>>, AllocError>
     ensures { IfOk result (λ members. option_map (λ members. members.items) members
         ≡ numbers_if_short numbers.now) }

@@ -1,5 +1,5 @@
-//! Laws of scripts. Each function's contract is the law; its body only names the laws that it
-//! stands on.
+//! Laws of scripts. Each function's contract is the law; its body only names the laws that the
+//! proof needs.
 
 ghost use Rattle.pay_sim.specs.RunLaws.{AllIsTaken, EachRuns, FirstLineIsGroup, OneRun};
 
@@ -11,7 +11,7 @@ use pay_member::laws::what_opens;
 use pay_world::laws::forged_is_told;
 use pay_world::liar_causes;
 
-/// A script prints at most one text, and ends in one way.
+/// States that a script prints at most one text, and ends in one way.
 // promise: scripts
 pub fn one_run()
     ensures { OneRun }
@@ -19,7 +19,7 @@ pub fn one_run()
     one_answer();
 }
 
-/// Each script has a text and an ending, whatever its bytes are.
+/// States that each script has a text and an ending, whatever its bytes are.
 // promise: scripts
 pub fn each_runs()
     ensures { EachRuns }
@@ -37,7 +37,7 @@ pub fn each_runs()
     first_line_is_group();
 }
 
-/// The group that a script's first line says is within the limits of a group.
+/// States that the group of a script's first line is within the limits of a group.
 // promise: scripts
 pub fn first_line_is_group()
     ensures { FirstLineIsGroup }
@@ -46,8 +46,8 @@ pub fn first_line_is_group()
     liar_causes();
 }
 
-/// Each frame that `all` brings is taken by its receiver, so that the count that it prints is one
-/// of frames taken; and no frame that it brings is forged, so that only the limit of events stops
+/// States that the receiver accepts each frame that `all` delivers, so that the printed count is
+/// one of accepted frames. No frame that it delivers is forged, so only the limit of events stops
 /// it.
 // promise: scripts
 pub fn all_is_taken()

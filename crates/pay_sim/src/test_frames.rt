@@ -9,8 +9,8 @@ use pay_link::pair_key;
 use std::alloc::{AllocError, Global};
 use std::cell::OnceCell;
 
-/// Tags as `HmacSha256` does, and keeps the test keys of a group's pairs prepared, each from its
-/// first tag on. Where memory is refused for one, it isn't kept.
+/// A tagger that computes what `HmacSha256` does, and keeps the test keys of a group's pairs
+/// prepared, each from its first tag on. If memory runs out for a key, it isn't kept.
 #[derive(Drop)]
 pub(crate) struct PairTagger {
     alloc: Global,
@@ -33,7 +33,8 @@ impl PairTagger {
         })
     }
 
-    /// What is kept at the place of a key's pair: this key, if it is the test key of one.
+    /// Returns what is kept at the place of the pair of `key`, if it is this key: `key` is the test
+    /// key of a pair.
     fn prepared_key(&self, key: &[u8; 32]) -> Option<&PreparedKey> {
         let place = usize::from(key[30]) * usize::from(self.members) + usize::from(key[31]);
         let kept = self.keys.get(place)?;
@@ -56,7 +57,7 @@ impl Tagger for PairTagger {
     }
 }
 
-/// The bytes of a frame with its right tag under the test key of the two members.
+/// Returns the bytes of a frame with its right tag under the test key of the two members.
 #[tactic(auto, unfolding(crate::specs::TestFrames::test_frame))]
 pub(crate) fn test_frame<T: Tagger>(
     alloc: Global,

@@ -4,8 +4,8 @@ use Rattle.std.specs.Prelude.{Option, Result, ◌⊎◌}
 use Rattle.std.specs.Io.KnownBytes.{Appends}
 use Rattle.std.proofs.KnownBytes.{Appends-nil, Appends-trans}
 use Rattle.std.proofs.Math.Seq.{take-append-add}
-use Rattle.pay_io.specs.declared.stream_fault.StreamFault.{StreamFault}
-use Rattle.pay_io.specs.Device.{WroteBeginning}
+use Rattle.pay_frame.specs.declared.device.StreamFault.{StreamFault}
+use Rattle.pay_frame.specs.Device.{WroteBeginning}
 use Rattle.pay_text.specs.Answers.{Answers}
 use Rattle.pay_text.specs.Engine.{Answering, AnswersAll, AnswersFirst, AnswersUntil, AnswersSome, Dialogue, Intake}
 

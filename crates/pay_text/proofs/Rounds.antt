@@ -3,8 +3,8 @@ use Rattle.std.proofs.Common.{◌≡◌, ℕ, ◌+◌, ◌<◌, ◌≤◌, List,
 use Rattle.std.specs.Prelude.{Option, Result, IfSome}
 use Rattle.std.specs.Io.KnownBytes.{Consumes, IsAtEnd}
 use Rattle.std.proofs.KnownBytes.{Consumes-nil, Consumes-trans}
-use Rattle.pay_io.specs.declared.stream_fault.StreamFault.{StreamFault}
-use Rattle.pay_io.specs.Device.{Gave}
+use Rattle.pay_frame.specs.declared.device.StreamFault.{StreamFault}
+use Rattle.pay_frame.specs.Device.{Gave}
 use Rattle.pay_text.specs.Lines.{lines_within}
 use Rattle.pay_text.specs.Cutting.{is_nothing, last_line, lines_after}
 use Rattle.pay_text.specs.Engine.{AnswersAll, AnswersFirst, AnswersUntil, AnswersSome, IsGoing, WritesByEnd, lines_left}

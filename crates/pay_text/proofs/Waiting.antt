@@ -5,9 +5,9 @@ use Rattle.std.specs.Io.KnownBytes.{Appends}
 use Rattle.std.proofs.KnownBytes.{Appends-nil, Appends-trans}
 use Rattle.std.proofs.Math.Seq.{take-append-add}
 use Rattle.std.proofs.lemmas.List.{take-append-le, take_all}
-use Rattle.pay_io.specs.declared.stream_fault.StreamFault.{StreamFault}
-use Rattle.pay_io.specs.declared.stream_fault.StreamFault.TheVariants.{Memory, Read, Write, Bound}
-use Rattle.pay_io.specs.Device.{WroteBeginning}
+use Rattle.pay_frame.specs.declared.device.StreamFault.{StreamFault}
+use Rattle.pay_frame.specs.declared.device.StreamFault.TheVariants.{Memory, Read, Write, Bound}
+use Rattle.pay_frame.specs.Device.{WroteBeginning}
 use Rattle.pay_text.specs.Answers.{Answers}
 use Rattle.pay_text.specs.Engine.{AnswersFirst, AnswersSome}
 use Rattle.pay_text.specs.Outbox.{Backlog, Puts, PutsUntil, BrokeOff, PutsSome, HasWritten}

@@ -1,28 +1,28 @@
 -- The answers to lines, one after the other.
 use Rattle.std.specs.Prelude.{◌≡◌, ℕ, Bool, true, false, List, [], ◌∷◌, ◌++◌, Option}
-use Rattle.pay_text.specs.declared.answerer.Text.{Text}
-use Rattle.pay_text.specs.declared.answerer.Text.TheVariants.{Made, Fixed}
+use Rattle.pay_text.specs.declared.engine.Text.{Text}
+use Rattle.pay_text.specs.declared.engine.Text.TheVariants.{Made, Fixed}
 
 -- the bytes of a text
 abbrev pub text_bytes : Text → List ℕ
 text_bytes (Made made) = made.items
 text_bytes (Fixed words) = words.now
 
--- nothing is said any more, and nobody changed
+-- no text follows, and nothing changed
 pub record IsOver {A : Type 0} (text : List ℕ) (on : Bool) (mid last : A) : Type 0 where
   pub silent : text ≡ []
   pub over : on ≡ false
   pub same : last ≡ mid
 
--- the one case or the other
+-- one of two cases
 abbrev pub Either : Bool → Type 0 → Type 0 → Type 0
 Either true P Q = P
 Either false P Q = Q
 
--- The text of the answers to these lines, up to the first after which none may follow; whether one
--- may follow still, and who has then answered them. `says` is what becomes of who answers by one
--- line: who it was, the line, or nothing where it is over the bound, the answer, whether a line may
--- follow, and who it is then.
+-- The text of the answers to these lines, up to the first line after which none may follow. `on`
+-- says whether a line may still follow, and `last` is the answerer afterwards. `says` relates one
+-- line to its effect: the answerer before, the line (nothing if over the bound), the answer,
+-- whether a line may follow, and the answerer after.
 -- page: `Answers`: the answers to lines, in order, up to one after which no line may follow
 abbrev pub Answers : {A : Type 0} → (A → Option (List ℕ) → List ℕ → Bool → A → Type 0) → A
     → List (Option (List ℕ)) → List ℕ → Bool → A → Type 0

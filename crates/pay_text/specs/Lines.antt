@@ -7,13 +7,13 @@ use Rattle.pay_text.specs.Words.{onto_first}
 abbrev pub line_feed : ℕ
 line_feed = 10
 
--- The lines of a text: what stands before each line feed, and what stands after the last one unless
--- it is nothing.
+-- The lines of a text: the text before each line feed, and the text after the last one unless it is
+-- empty.
 unfoldable pub lines_of : List ℕ → List (List ℕ)
 lines_of [] = []
 lines_of (b ∷ bytes) = if b == line_feed then [] ∷ lines_of bytes else onto_first b (lines_of bytes)
 
--- a line of at most so many bytes; nothing is said of a longer one
+-- a line of at most `bound` bytes, and nothing for a longer line
 unfoldable pub within : ℕ → List ℕ → Option (List ℕ)
 within bound line = if nat_le (length line) bound then Some line else None
 

@@ -1,19 +1,19 @@
 -- Answers that wait until they are written together.
 use Rattle.std.specs.Prelude.{◌≡◌, ℕ, Bool, true, false, List, ◌++◌, ◌⊎◌, Option, Result, Ok, Err}
 use Rattle.std.specs.Io.KnownBytes.{Appends}
-use Rattle.pay_io.specs.declared.stream_fault.StreamFault.{StreamFault}
-use Rattle.pay_io.specs.declared.stream_fault.StreamFault.TheVariants.{Memory, Read, Write, Bound}
-use Rattle.pay_io.specs.Device.{WroteBeginning}
+use Rattle.pay_frame.specs.declared.device.StreamFault.{StreamFault}
+use Rattle.pay_frame.specs.declared.device.StreamFault.TheVariants.{Memory, Read, Write, Bound}
+use Rattle.pay_frame.specs.Device.{WroteBeginning}
 use Rattle.pay_text.specs.Answers.{Answers}
 use Rattle.pay_text.specs.Engine.{Answering}
 
--- A text is put after what waits: all of that is written, or waits still, in order.
+-- A text is appended to the texts that wait: all of that is written, or still waits, in order.
 pub record Puts (before after : Option (List ℕ)) (old new text : List ℕ) : Type 0 where
   pub out : List ℕ
   pub written : Appends before after out
   pub all : old ++ text ≡ out ++ new
 
--- Who answers, what is written, and what waits.
+-- The answerer, what is written, and what waits.
 pub record Backlog (A : Type 0) : Type 0 where
   pub answerer : A
   pub written : Option (List ℕ)
@@ -23,7 +23,7 @@ pub record Backlog (A : Type 0) : Type 0 where
 abbrev pub PutsAfter : {A : Type 0} → Backlog A → Backlog A → List ℕ → Type 0
 PutsAfter old new text = Puts old.written new.written old.waits new.waits text
 
--- Of the lines to come these are left. The others are answered, and their answers put.
+-- Of the lines to come these are left. The others are answered, and their answers are appended.
 pub record PutsUntil {A : Type 0} (says : A → Option (List ℕ) → List ℕ → Bool → A → Type 0)
     (lines left : List (Option (List ℕ))) (old new : Backlog A) : Type 0 where
   pub answered : List (Option (List ℕ))
@@ -32,14 +32,14 @@ pub record PutsUntil {A : Type 0} (says : A → Option (List ℕ) → List ℕ �
   pub answers : Answers says old.answerer answered text true new.answerer
   pub puts : PutsAfter old new text
 
--- The last line is answered that may be, and all answers put.
+-- The last line that may be answered is answered, and all answers are appended.
 pub record PutAll {A : Type 0} (says : A → Option (List ℕ) → List ℕ → Bool → A → Type 0)
     (lines : List (Option (List ℕ))) (old new : Backlog A) : Type 0 where
   pub text : List ℕ
   pub answers : Answers says old.answerer lines text false new.answerer
   pub puts : PutsAfter old new text
 
--- The first lines are answered and their answers put; at the next one memory was refused.
+-- The first lines are answered and their answers are appended. At the next line memory ran out.
 pub record PutFirst {A : Type 0} (answering : Answering A) (lines : List (Option (List ℕ)))
     (old new : Backlog A) : Type 0 where
   pub first : List (Option (List ℕ))
@@ -51,8 +51,8 @@ pub record PutFirst {A : Type 0} (answering : Answering A) (lines : List (Option
   pub puts : PutsAfter old new text
   pub ends : answering.gives_up mid new.answerer
 
--- The first lines are answered; a write failed, and a beginning of what waited and of their answers
--- is written.
+-- The first lines are answered. A write failed, and a prefix of the waiting texts and of these
+-- answers is written.
 pub record BrokeOff {A : Type 0} (says : A → Option (List ℕ) → List ℕ → Bool → A → Type 0)
     (lines : List (Option (List ℕ))) (old new : Backlog A) : Type 0 where
   pub first : List (Option (List ℕ))
@@ -63,7 +63,7 @@ pub record BrokeOff {A : Type 0} (says : A → Option (List ℕ) → List ℕ �
   pub answers : Answers says old.answerer first text on new.answerer
   pub wrote : WroteBeginning old.written new.written (old.waits ++ text)
 
--- what lines come to, by how it ended
+-- what lines lead to, according to how the loop ended
 abbrev pub PutsSome :
     {A : Type 0} → Answering A → List (Option (List ℕ)) → List (Option (List ℕ)) → Backlog A
     → Backlog A → Result Bool StreamFault → Type 0
@@ -74,8 +74,8 @@ PutsSome answering lines left old new (Err Read) = BrokeOff answering.says lines
 PutsSome answering lines left old new (Err Write) = BrokeOff answering.says lines old new
 PutsSome answering lines left old new (Err Bound) = BrokeOff answering.says lines old new
 
--- What waited is appended to what was answered, by how that ended and what came of writing it.
--- After a write that failed nothing more is written.
+-- What waited is appended to what was answered, according to how the answering and the write ended.
+-- After a failed write nothing more is written.
 abbrev pub HasWritten : Result Bool StreamFault → Option (List ℕ) → Option (List ℕ) → List ℕ
     → Result Bool StreamFault → Type 0
 HasWritten answered before after waited (Ok on) = (answered ≡ Ok on) × Appends before after waited

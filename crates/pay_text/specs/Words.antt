@@ -11,11 +11,11 @@ abbrev pub onto_first : ℕ → List (List ℕ) → List (List ℕ)
 onto_first b [] = (b ∷ []) ∷ []
 onto_first b (part ∷ parts) = (b ∷ part) ∷ parts
 
--- What stands between the blanks of a line. Two blanks beside each other, and one at an end, have
--- an empty word there; a line without a blank is one word.
+-- The texts between the blanks of a line. Two blanks beside each other, and a blank at an end, have
+-- an empty word there. A line without a blank is one word.
 -- page: `words_of`, `number_of`, `lines_of`: words, numbers and lines [as commands have
---   them](COMMANDS.md); words may be empty, the last line may lack its line feed, and a line
---   over its bound is nothing (`within`)
+--   them](commands.md). Words may be empty, the last line may lack its line feed, and a line over
+--   its bound is nothing (`within`)
 unfoldable pub words_of : List ℕ → List (List ℕ)
 words_of [] = [] ∷ []
 words_of (b ∷ bytes) = if b == blank then [] ∷ words_of bytes else onto_first b (words_of bytes)
@@ -25,7 +25,7 @@ unfoldable pub joined_words : List ℕ → List (List ℕ) → List ℕ
 joined_words word [] = word
 joined_words word (next ∷ words) = word ++ blank ∷ joined_words next words
 
--- the words of what is left of a line; none where nothing is left, not even an empty word
+-- the words of what is left of a line; there are none if nothing is left, not even an empty word
 abbrev pub words_in : Option (List ℕ) → List (List ℕ)
 words_in None = []
 words_in (Some rest) = words_of rest

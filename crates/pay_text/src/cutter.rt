@@ -5,8 +5,8 @@ ghost use Rattle.pay_text.specs.Cutting.{line_with_byte, is_nothing};
 use std::alloc::{AllocError, Global};
 use std::marker::Model;
 
-/// The line of a text that has begun, byte by byte. Of a line that is over the bound nothing is
-/// held. Such a line is answered at its end, so that the answers don't depend on how the text is
+/// The line of a text that has begun, byte by byte. Nothing is held of a line that is over the
+/// bound. Such a line is answered at its end, so that the answers don't depend on how the text is
 /// cut.
 #[derive(Drop)]
 pub struct LineCutter {
@@ -31,8 +31,8 @@ impl Model for LineCutter {
 }
 
 impl LineCutter {
-    /// A cutter for lines of at most `bound` bytes, to which no byte was pushed. This is the only
-    /// call that allocates.
+    /// Creates a cutter for lines of at most `bound` bytes, with no byte yet. This is the only call
+    /// that allocates.
     // promise: lines and words
     pub fn new(alloc: Global, bound: usize) -> Result<LineCutter, AllocError>
         ensures { IfOk result (λ cutter. cutter ≡ record { bound = bound; line = Some [] }) }
@@ -45,7 +45,7 @@ impl LineCutter {
         })
     }
 
-    /// Adds a byte to the line.
+    /// Adds `byte` to the line.
     // promise: lines and words
     pub fn push(&mut self, byte: u8)
         ensures { self.new
@@ -61,7 +61,7 @@ impl LineCutter {
         }
     }
 
-    /// The bytes of the line so far, or `None` if they are over the bound.
+    /// Returns the bytes of the line so far, or `None` if they are over the bound.
     // promise: lines and words
     pub fn line(&self) -> Option<&[u8]>
         ensures { option_copied result ≡ self.now.line }
@@ -72,7 +72,7 @@ impl LineCutter {
         Some(self.line.as_slice())
     }
 
-    /// Whether no byte of the line was pushed.
+    /// Returns whether no byte of the line was pushed.
     // promise: lines and words
     pub fn is_empty(&self) -> bool
         ensures { result ≡ is_nothing self.now.line }

@@ -1,30 +1,159 @@
-ghost use Rattle.std.specs.Prelude.{◌≡◌, ◌⊎◌, ◌+◌, ◌++◌, ◌∷◌, ℕ, Bool, List, Option, Some, Ok, Err};
-ghost use Rattle.std.specs.Prelude.{[], OnOk};
-ghost use Rattle.std.specs.Prelude.{IsErrOf};
-ghost use Rattle.pay_io.specs.Counts.{KeepsCounts, counts_of, no_other_faults};
-ghost use Rattle.pay_io.specs.Device.{next_count};
+//! The loop that answers each line of a text.
+
+ghost use Rattle.std.specs.Prelude.{◌≡◌, ℕ, List, Bool, Option, IfOk, OnErr, ◌++◌, [], true, false};
+ghost use Rattle.std.specs.Prelude.{IfErr, OnOk, ◌⊎◌, ◌+◌, ◌∷◌, Some, Ok, Err, IsErrOf};
+ghost use Rattle.std.specs.Io.KnownBytes.{Appends};
+ghost use Rattle.std.specs.Option.{option_copied};
+ghost use Rattle.pay_frame.specs.Counts.{KeepsCounts, counts_of, no_other_faults};
+ghost use Rattle.pay_frame.specs.Device.{WroteBeginning, next_count};
+ghost use Rattle.pay_text.specs.Answers.{text_bytes};
 ghost use Rattle.pay_text.specs.Cutting.{lines_after};
 ghost use Rattle.pay_text.specs.Engine.{AnswersSome, Dialogue, IsGoing, Reads, WritesByEnd};
-ghost use Rattle.pay_text.specs.Outbox.{PutsSome, HasWritten};
+ghost use Rattle.pay_text.specs.Outbox.{Puts, PutsSome, HasWritten};
 
-use crate::answerer::{Answer, Answerer};
 use crate::cutter::LineCutter;
-use crate::outbox::Outbox;
-use pay_io::{Input, MOST_READS, Output, StreamFault};
-use std::alloc::Global;
+use pay_frame::{Input, MOST_READS, Output, StreamFault, write_text};
+use std::alloc::{AllocError, Global};
+use std::marker::Model;
 
-// How many bytes are asked for in one read.
+/// A text that was made, or a fixed text, which needs no allocation.
+#[derive(Drop)]
+pub enum Text {
+    Made(Vec<u8>),
+    Fixed(&'static str),
+}
+
+impl Text {
+    pub fn as_bytes(&self) -> &[u8]
+        ensures { result.now ≡ text_bytes self.now }
+    {
+        match self {
+            Text::Made(made) => made.as_slice(),
+            Text::Fixed(words) => words.as_bytes(),
+        }
+    }
+}
+
+/// The answer to a line.
+#[derive(Drop)]
+pub struct Answer {
+    pub text: Text,
+    /// True if a line may follow.
+    pub goes_on: bool,
+}
+
+/// An answerer of lines, one after the other.
+pub trait Answerer {
+    // What one line does: the answerer before it, the line (nothing if it is over the bound), the
+    // answer's text, whether a line may follow, and the answerer after it.
+    ghost says: { Self → Option (List ℕ) → List ℕ → Bool → Self → Type 0 };
+
+    // What may become of the answerer if memory runs out: the answerer before and after.
+    ghost gives_up: { Self → Self → Type 0 };
+
+    /// Answers `line`, or `None` for a line that is over the bound.
+    // promise: answers in order (err)
+    fn answer(&mut self, alloc: Global, line: Option<&[u8]>) -> Result<Answer, AllocError>
+        ensures ok { IfOk result (λ a.
+            says self.old (option_copied line.entry) (text_bytes a.text) a.goes_on self.new) }
+        ensures err { OnErr result (gives_up self.old self.new) };
+}
+
+/// The most bytes of answers that wait until they are written together.
+const ROOM: usize = 65_536;
+
+/// Text that isn't written yet. `new` allocates its buffer, and no later call allocates.
+#[derive(Drop)]
+pub(crate) struct Outbox {
+    waiting: Vec<u8>,
+}
+
+impl Model for Outbox {
+    ghost use Rattle.std.specs.Prelude.{ℕ, List, ◌≤◌, length, vec_capacity};
+    ghost use Rattle.pay_text.specs.declared.engine.TheConstants.{ROOM};
+
+    ghost Value = { List ℕ };
+
+    ghost view = { λ o. o.waiting.items };
+
+    ghost invariant = { λ o. (length o.waiting.items ≤ ROOM) × (ROOM ≤ vec_capacity o.waiting) };
+}
+
+impl Outbox {
+    pub(crate) fn new(alloc: Global) -> Result<Outbox, AllocError>
+        ensures { IfOk result (λ outbox. outbox ≡ []) }
+    {
+        let waiting = Vec::with_capacity(alloc, ROOM)?;
+        Ok(Outbox { waiting })
+    }
+
+    /// Appends `text` to the texts that wait. If there is no room for it, the waiting texts are
+    /// written first.
+    pub(crate) fn put<W: Output>(&mut self, writer: &mut W, text: &[u8]) -> Result<(), StreamFault>
+        ensures ok { OnOk result (Puts (W.contents writer.old) (W.contents writer.new)
+            self.old self.new text.now) }
+        ensures none_failed { OnOk result
+            (W.failure_count writer.new ≡ W.failure_count writer.old) }
+        ensures err { IfErr result (λ fault. fault ≡ StreamFault.Write) }
+        ensures beginning { OnErr result (WroteBeginning
+            (W.contents writer.old) (W.contents writer.new) (self.old ++ text.now)) }
+        ensures failed { OnErr result
+            (W.failure_count writer.new ≡ next_count (W.failure_count writer.old)) }
+    {
+        if self.hold(text) {
+            return Ok(());
+        }
+        self.flush(writer)?;
+        if self.hold(text) {
+            return Ok(());
+        }
+        write_text(writer, text)?;
+        Ok(())
+    }
+
+    /// Appends `text` to the texts that wait, if there is room for it. Returns whether there was.
+    fn hold(&mut self, text: &[u8]) -> bool
+        ensures held { result ≡ true → self.new ≡ self.old ++ text.now }
+        ensures full { result ≡ false → self.new ≡ self.old }
+    {
+        if text.len() > ROOM - self.waiting.len() {
+            return false;
+        }
+        let _ = self.waiting.extend_from_slice(text);
+        true
+    }
+
+    /// Writes what waits.
+    pub(crate) fn flush<W: Output>(&mut self, writer: &mut W) -> Result<(), StreamFault>
+        ensures ok { OnOk result
+            (Appends (W.contents writer.old) (W.contents writer.new) self.old) }
+        ensures empty { OnOk result (self.new ≡ []) }
+        ensures none_failed { OnOk result
+            (W.failure_count writer.new ≡ W.failure_count writer.old) }
+        ensures err { IfErr result (λ fault. fault ≡ StreamFault.Write) }
+        ensures beginning { OnErr result (WroteBeginning
+            (W.contents writer.old) (W.contents writer.new) self.old) }
+        ensures failed { OnErr result
+            (W.failure_count writer.new ≡ next_count (W.failure_count writer.old)) }
+    {
+        write_text(writer, self.waiting.as_slice())?;
+        self.waiting.clear();
+        Ok(())
+    }
+}
+
+// The most bytes that one read requests.
 const PIECE: usize = 4096;
 
-/// Reads lines to the input's end and writes the answer to each, however they come in pieces. A
-/// line without a line feed at the end counts as one; of a line over the bound the answerer learns
-/// nothing else. The answers to the lines that one read gave are written together, as far as a
-/// buffer of 65,536 bytes holds them.
+/// Reads lines to the input's end and writes the answer to each line, however the lines come in
+/// pieces. A last line without a line feed counts as a line. Of a line over `bound` the answerer
+/// learns only that it was too long. The answers to the lines of one read are written together, as
+/// far as a buffer of 65,536 bytes holds them.
 ///
 /// Returns `true` at the input's end, and `false` after a line after which none may follow.
 ///
-/// After a fault what was written is a prefix of the answers, and the answerer is what the answered
-/// lines made of it, or it gave up at the next one.
+/// After a fault, a prefix of the answers has been written. The answerer is as the answered lines
+/// left it, or it gave up at the next line.
 // promise: early ends (counts, none_failed, all_written); answers in order (text)
 pub fn run_lines<A: Answerer, R: Input, W: Output>(
     alloc: Global,
@@ -61,8 +190,8 @@ pub fn run_lines<A: Answerer, R: Input, W: Output>(
     Err(StreamFault::Bound)
 }
 
-/// Reads a piece and answers the lines that end in it. At the end answers whether the input came to
-/// its own.
+/// Reads a piece and answers the lines that end in it. At the input's end it returns whether the
+/// input came to its own end.
 fn read_once<A: Answerer, R: Input, W: Output>(
     alloc: Global,
     answerer: &mut A,
@@ -112,8 +241,8 @@ fn read_once<A: Answerer, R: Input, W: Output>(
     }
 }
 
-/// Answers the lines that end in a piece of the text, and writes the answers. Answers whether a
-/// line may follow.
+/// Answers the lines that end in `piece`, and writes the answers. Returns whether a line may
+/// follow.
 fn take_piece<A: Answerer, W: Output>(
     alloc: Global,
     answerer: &mut A,
@@ -170,8 +299,8 @@ fn answer_last<A: Answerer, W: Output>(
     finish_writing(outbox, writer, answered)
 }
 
-/// Writes the answers that wait, but after a write that failed, and passes on how answering ended,
-/// if they are written.
+/// Writes the answers that wait, except after a failed write. Then returns `answered`, or the fault
+/// of this write.
 fn finish_writing<W: Output>(
     outbox: &mut Outbox,
     writer: &mut W,
@@ -206,7 +335,7 @@ fn finish_writing<W: Output>(
     }
 }
 
-/// Answers the lines that end in a piece of the text. Answers whether a line may follow.
+/// Answers the lines that end in `piece`. Returns whether a line may follow.
 fn answer_lines<A: Answerer, W: Output>(
     alloc: Global,
     answerer: &mut A,
@@ -248,7 +377,7 @@ fn answer_lines<A: Answerer, W: Output>(
     Ok(true)
 }
 
-/// Answers the complete line, and begins the next one. Returns whether that may follow.
+/// Answers the complete line, and begins the next one. Returns whether a line may follow.
 fn answer_line<A: Answerer, W: Output>(
     alloc: Global,
     answerer: &mut A,

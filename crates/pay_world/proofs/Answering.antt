@@ -4,20 +4,20 @@ use Rattle.std.specs.Option.{option_map_or}
 use Rattle.std.proofs.lemmas.Bool.{cases_eq, cases_Bool, and_from, and_right}
 use Rattle.std.proofs.lemmas.Bool.Decides.{nat_tests}
 use Rattle.pay_frame.specs.declared.limits.TheConstants.{GREATEST_VALUE, SEQS}
-use Rattle.pay_frame.specs.declared.kind.Kind.{Kind}
-use Rattle.pay_frame.specs.declared.kind.Kind.TheVariants.{Send, Echo, Ready, Want}
+use Rattle.pay_frame.specs.declared.body.Kind.{Kind}
+use Rattle.pay_frame.specs.declared.body.Kind.TheVariants.{Send, Echo, Ready, Want}
 use Rattle.pay_frame.specs.Frame.{FrameFields}
 use Rattle.pay_channel.specs.History.{Event, asks}
 use Rattle.pay_channel.specs.History as channel
 use Rattle.pay_channel.specs.Taken.{next}
 use Rattle.pay_link.specs.Checked.{CheckedFields}
 use Rattle.pay_member.specs.declared.event.Event.TheVariants as entry
-use Rattle.pay_member.specs.declared.entry.HistoryEntry.{HistoryEntry}
+use Rattle.pay_member.specs.declared.event.HistoryEntry.{HistoryEntry}
 use Rattle.pay_member.specs.declared.fault.MemberFault.{MemberFault}
 use Rattle.pay_member.specs.declared.fault.MemberFault.TheVariants.{TooLong, Spent}
-use Rattle.pay_member.specs.declared.reply.Reply.TheVariants as entry_reply
-use Rattle.pay_member.specs.declared.outcome.Outcome.{Outcome}
-use Rattle.pay_member.specs.declared.outcome.Outcome.TheVariants as outcome
+use Rattle.pay_member.specs.declared.event.Reply.TheVariants as entry_reply
+use Rattle.pay_member.specs.declared.bringing.Outcome.{Outcome}
+use Rattle.pay_member.specs.declared.bringing.Outcome.TheVariants as outcome
 use Rattle.pay_member.specs.Events.{events}
 use Rattle.pay_member.specs.EventLaws.{EventsByOneMore}
 use Rattle.pay_member.specs.Refusal.{refusal}
@@ -26,9 +26,9 @@ use Rattle.pay_member.specs.Bringing.{opened_in, event_of_frame, event_in, with_
 use Rattle.pay_member.specs.OpeningLaws.{WhatOpens}
 use Rattle.pay_world.specs.declared.event.WorldEvent.{WorldEvent}
 use Rattle.pay_world.specs.declared.event.WorldEvent.TheVariants.{Ask, Bring}
-use Rattle.pay_world.specs.declared.fault.WorldFault.{WorldFault}
-use Rattle.pay_world.specs.declared.reply.WorldReply.{WorldReply}
-use Rattle.pay_world.specs.declared.reply.WorldReply.TheVariants.{Asked, Refused, Brought, Ignored}
+use Rattle.pay_world.specs.declared.event.WorldFault.{WorldFault}
+use Rattle.pay_world.specs.declared.event.WorldReply.{WorldReply}
+use Rattle.pay_world.specs.declared.event.WorldReply.TheVariants.{Asked, Refused, Brought, Ignored}
 use Rattle.pay_world.specs.Setting.{Setting, HasFewFaulty}
 use Rattle.pay_world.specs.Actions.{Action, Asks, member_of, is_want, may_come, counts, adds}
 use Rattle.pay_world.specs.Genuine.{IsGenuineIn, is_forged_in}

@@ -2,7 +2,7 @@
 use Rattle.std.proofs.Common.{◌≡◌, ◌≢◌, ◌⊎◌, inl, inr, ℕ, ◌+◌, ◌*◌, ◌<◌, ◌≤◌, Bool, true, not, ◌&&◌, List, [], length, slice_get, Option, None, Some, Contains, refl, sym, ap, ◌∙◌, subst, arith, append-nil, true≢false}
 use Rattle.std.proofs.lemmas.Bool.{cases_eq, and_parts, not-true}
 use Rattle.pay_frame.specs.Frame.{BodyFields}
-use Rattle.pay_frame.specs.declared.kind.Kind.TheVariants.{Send, Echo, Ready}
+use Rattle.pay_frame.specs.declared.body.Kind.TheVariants.{Send, Echo, Ready}
 use Rattle.pay_echo.specs.Broadcast.{size, echoed, echo_of, echo_set, other_ready_set, readied, ready_of, ready_set, delivered}
 use Rattle.pay_channel.specs.History.{Event, From, body_of, out, seqs, delivered_at, list_of}
 use Rattle.pay_channel.specs.Asked.{asked_values}

@@ -2,7 +2,7 @@
 use Rattle.std.proofs.Common.{◌≡◌, ◌≢◌, ◌⊎◌, inl, inr, ℕ, List, Some, slice_get, All, Contains, sym, ap, ◌∙◌}
 use Rattle.std.proofs.lemmas.Bool.{cases_eq}
 use Rattle.pay_frame.specs.Frame.{BodyFields}
-use Rattle.pay_frame.specs.declared.kind.Kind.TheVariants.{Send, Echo, Ready}
+use Rattle.pay_frame.specs.declared.body.Kind.TheVariants.{Send, Echo, Ready}
 use Rattle.pay_echo.specs.Broadcast.{echoed, echo_of, readied, ready_of}
 use Rattle.pay_channel.specs.Prefix.{IsPrefix}
 use Rattle.pay_channel.specs.History.{Event, From, IsEvent, body_of, out}

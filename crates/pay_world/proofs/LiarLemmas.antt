@@ -4,8 +4,8 @@ use Rattle.std.specs.Bool.{Decides}
 use Rattle.std.specs.List.{AllPairs, AllByRecursion, IsDistinct, list_all}
 use Rattle.std.proofs.lemmas.Bool.Decides.{nat_tests, Decides-eqb, Decides-ltb, Decides-by_and}
 use Rattle.std.proofs.lemmas.Map.Made.{AllPairs-from_IsDistinct, IsDistinct-from_AllPairs}
-use Rattle.pay_world.specs.declared.liar_fault.LiarFault.{LiarFault}
-use Rattle.pay_world.specs.declared.liar_fault.LiarFault.TheVariants.{Unknown, Twice, TooMany}
+use Rattle.pay_world.specs.declared.liars.LiarFault.{LiarFault}
+use Rattle.pay_world.specs.declared.liars.LiarFault.TheVariants.{Unknown, Twice, TooMany}
 use Rattle.pay_world.specs.Liars.{LiarFields, AreMembers, LiarsAreDistinct, AreLiars, is_listed, has_twice, liar_fault}
 
 or_false : (a b : Bool) → (a || b) ≡ false → (a ≡ false) × (b ≡ false)

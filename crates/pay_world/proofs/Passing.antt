@@ -6,8 +6,8 @@ use Rattle.std.specs.Option.{option_map_or}
 use Rattle.std.proofs.lemmas.Bool.{and_right, cases_eq, cond-false}
 use Rattle.std.proofs.lemmas.List.Elements.{All-get_or}
 use Rattle.std.proofs.lemmas.Option.{get_or_from_slice_get, same_Some, slice_get_within}
-use Rattle.pay_frame.specs.declared.kind.Kind.{Kind}
-use Rattle.pay_frame.specs.declared.kind.Kind.TheVariants.{Send, Echo, Ready, Want}
+use Rattle.pay_frame.specs.declared.body.Kind.{Kind}
+use Rattle.pay_frame.specs.declared.body.Kind.TheVariants.{Send, Echo, Ready, Want}
 use Rattle.pay_frame.specs.Frame.{BodyFields, FrameFields, IsFrame, frame_bytes}
 use Rattle.pay_frame.specs.OneFrame.{IsOneFrame}
 use Rattle.pay_channel.specs.History.{Event, From, IsEvent, out}
@@ -20,18 +20,18 @@ use Rattle.pay_link.specs.Fronts.{turn}
 use Rattle.pay_link.specs.Keys.{IsPeer, KeyFields, key_for}
 use Rattle.pay_link.specs.Opening.{Opens, judgement, opened_fields}
 use Rattle.pay_link.specs.Sealing.{sealed_frame, tagged_bytes}
-use Rattle.pay_link.specs.declared.link_fault.LinkFault.{LinkFault}
-use Rattle.pay_link.specs.declared.link_fault.LinkFault.TheVariants.{Gap, Repeat}
-use Rattle.pay_member.specs.declared.incoming.Incoming.TheVariants.{Message}
+use Rattle.pay_link.specs.declared.opened.LinkFault.{LinkFault}
+use Rattle.pay_link.specs.declared.opened.LinkFault.TheVariants.{Gap, Repeat}
+use Rattle.pay_member.specs.declared.bringing.Incoming.TheVariants.{Message}
 use Rattle.pay_member.specs.Bringing.{IsOutcome, answer_to, outcome_of_judged, event_in, incoming_at, incoming_of, is_want, opened_in, outcome_of, outcome_to, with_brought}
 use Rattle.pay_member.specs.Events.{events}
 use Rattle.pay_member.specs.Group.{group_in}
 use Rattle.pay_member.specs.Laws.{EventIn, OpenedIn}
 use Rattle.pay_member.specs.Member.{MemberFields}
-use Rattle.pay_member.specs.declared.outcome.Outcome.TheVariants.{Link}
+use Rattle.pay_member.specs.declared.bringing.Outcome.TheVariants.{Link}
 use Rattle.pay_world.specs.declared.event.WorldEvent.{WorldEvent}
-use Rattle.pay_world.specs.declared.reply.WorldReply.{WorldReply}
-use Rattle.pay_world.specs.declared.reply.WorldReply.TheVariants.{Brought}
+use Rattle.pay_world.specs.declared.event.WorldReply.{WorldReply}
+use Rattle.pay_world.specs.declared.event.WorldReply.TheVariants.{Brought}
 use Rattle.pay_world.specs.Answer.{AnswersEvent, IsReplyFrom, IsTakenBy, brought_to, is_forged_at, member_after}
 use Rattle.pay_world.specs.Actions.{Action, adds, counts, member_of}
 use Rattle.pay_world.specs.Actions as actions

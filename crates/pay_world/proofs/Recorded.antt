@@ -24,7 +24,7 @@ use Rattle.pay_link.specs.Keys.{IsKeysOf, KeyFields, is_peer, key_for}
 use Rattle.pay_link.specs.Opening.{IsTagged, Opens}
 use Rattle.pay_member.specs.declared.event.Event.{Event as MemberEvent}
 use Rattle.pay_member.specs.declared.event.Event.TheVariants as entry
-use Rattle.pay_member.specs.declared.entry.HistoryEntry.{HistoryEntry}
+use Rattle.pay_member.specs.declared.event.HistoryEntry.{HistoryEntry}
 use Rattle.pay_member.specs.declared.fault.MemberFault.{MemberFault}
 use Rattle.pay_member.specs.declared.fault.MemberFault.TheVariants.{TooLong, Spent, WrongKey}
 use Rattle.pay_member.specs.Bringing.{checked_with, opened_in}

@@ -11,10 +11,10 @@ use Rattle.pay_link.specs.Keys.{KeyFields}
 use Rattle.pay_member.specs.Member.{MemberFields}
 use Rattle.pay_world.specs.declared.event.WorldEvent.{WorldEvent}
 use Rattle.pay_world.specs.declared.event.WorldEvent.TheVariants.{Ask, Bring}
-use Rattle.pay_world.specs.declared.fault.WorldFault.{WorldFault}
-use Rattle.pay_world.specs.declared.fault.WorldFault.TheVariants.{Memory, Forged}
-use Rattle.pay_world.specs.declared.reply.WorldReply.{WorldReply}
-use Rattle.pay_world.specs.declared.reply.WorldReply.TheVariants.{Asked, Refused, Brought, Ignored}
+use Rattle.pay_world.specs.declared.event.WorldFault.{WorldFault}
+use Rattle.pay_world.specs.declared.event.WorldFault.TheVariants.{Memory, Forged}
+use Rattle.pay_world.specs.declared.event.WorldReply.{WorldReply}
+use Rattle.pay_world.specs.declared.event.WorldReply.TheVariants.{Asked, Refused, Brought, Ignored}
 use Rattle.pay_world.specs.Setting.{Setting}
 use Rattle.pay_world.specs.Actions.{Action, adds, history_by}
 use Rattle.pay_world.specs.Genuine.{IsGenuine, AreGenuine, is_forged_in}

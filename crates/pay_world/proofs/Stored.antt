@@ -13,7 +13,7 @@ use Rattle.pay_link.specs.Keys.{KeyFields, IsKeysOf, is_peer, key_for}
 use Rattle.pay_link.specs.Checked.{CheckedFields, IsChecked}
 use Rattle.pay_member.specs.declared.event.Event.{Event as MemberEvent}
 use Rattle.pay_member.specs.declared.event.Event.TheVariants as entry
-use Rattle.pay_member.specs.declared.entry.HistoryEntry.{HistoryEntry}
+use Rattle.pay_member.specs.declared.event.HistoryEntry.{HistoryEntry}
 use Rattle.pay_member.specs.declared.fault.MemberFault.{MemberFault}
 use Rattle.pay_member.specs.declared.fault.MemberFault.TheVariants.{TooLong, Spent, Repeat, Gap, WrongKey}
 use Rattle.pay_member.specs.Events.{channel_event, events}

@@ -2,8 +2,8 @@
 use Rattle.std.proofs.Common.{◌≡◌, ⊎_elim, ◌↔◌, ℕ, Bool, true, false, not, eqb, ltb, ◌&&◌, List, slice_get, Option, None, Some, bytes_eq, refl, sym, ap, ◌∙◌, arith, lt-ltb, ltb-true, eq-eqb, eqb-true, [], ◌∷◌, ◌++◌, subst, append_assoc, append-nil}
 use Rattle.std.proofs.lemmas.Bool.{cases_Bool, and_parts, and_cases, and_left, and_right, and_from, both_ways, not-true, not-false, false≢true}
 use Rattle.std.proofs.lemmas.Slice.Eq.{bytes_eq-Decides}
-use Rattle.pay_frame.specs.declared.kind.Kind.{Kind}
-use Rattle.pay_frame.specs.declared.kind.Kind.TheVariants.{Send, Echo, Ready, Want}
+use Rattle.pay_frame.specs.declared.body.Kind.{Kind}
+use Rattle.pay_frame.specs.declared.body.Kind.TheVariants.{Send, Echo, Ready, Want}
 use Rattle.pay_frame.specs.Frame.{BodyFields, code_of}
 use Rattle.pay_channel.specs.History.{Event, out}
 use Rattle.pay_world.specs.Setting.{Setting, group_at, IsCorrect, is_correct}

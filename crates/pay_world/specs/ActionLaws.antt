@@ -1,11 +1,10 @@
--- What holds of actions and of the histories by them, as statements. Each is proved as a public
--- law.
+-- Statements about actions and the histories by them. Each is proved as a public law.
 use Rattle.std.specs.Prelude.{◌≡◌, ◌↔◌, ℕ, Bool, true, false, List, [], ◌∷◌, ◌++◌}
 use Rattle.pay_channel.specs.Prefix.{IsPrefix}
 use Rattle.pay_channel.specs.History.{Event}
 use Rattle.pay_link.specs.Genesis.{GenesisFields}
 use Rattle.pay_link.specs.Keys.{KeyFields, IsKeysOf}
-use Rattle.pay_member.specs.declared.entry.HistoryEntry.{HistoryEntry}
+use Rattle.pay_member.specs.declared.event.HistoryEntry.{HistoryEntry}
 use Rattle.pay_member.specs.Events.{events}
 use Rattle.pay_member.specs.Legal.{Legal}
 use Rattle.pay_world.specs.Setting.{Setting, setting_by, IsCorrect, is_correct}
@@ -30,8 +29,8 @@ HistoriesGrow =
     (w : Setting) (actions more : List Action)
     → Grow (history_by w actions) (history_by w (actions ++ more))
 
--- A history that a member can have, queries left out, is the one by the asks and frames that it
--- holds, as actions at that member
+-- A history that a member can have, without queries, is the one by the submitted values and frames
+-- that it holds, as actions at that member
 abbrev pub LegalHistoryByActions : Type 0
 LegalHistoryByActions =
     (g : GenesisFields) (k : KeyFields) (history : List HistoryEntry) (faulty : ℕ → Bool)

@@ -9,41 +9,42 @@ use Rattle.pay_channel.specs.History.{Event, asks, out}
 use Rattle.pay_link.specs.Keys.{KeyFields}
 use Rattle.pay_member.specs.declared.event.Event.TheVariants as entry
 use Rattle.pay_member.specs.declared.fault.MemberFault.{MemberFault}
-use Rattle.pay_member.specs.declared.reply.Reply.TheVariants as entry_reply
+use Rattle.pay_member.specs.declared.event.Reply.TheVariants as entry_reply
 use Rattle.pay_member.specs.Events.{events}
 use Rattle.pay_member.specs.Refusal.{refusal}
 use Rattle.pay_member.specs.Bringing.{IsOutcome, opened_in, event_in, with_brought}
 use Rattle.pay_member.specs.Member.{MemberFields, with_entry}
 use Rattle.pay_world.specs.declared.event.WorldEvent.{WorldEvent}
 use Rattle.pay_world.specs.declared.event.WorldEvent.TheVariants.{Ask, Bring}
-use Rattle.pay_world.specs.declared.fault.WorldFault.{WorldFault}
-use Rattle.pay_world.specs.declared.fault.WorldFault.TheVariants.{Forged}
-use Rattle.pay_world.specs.declared.reply.WorldReply.{WorldReply}
-use Rattle.pay_world.specs.declared.reply.WorldReply.TheVariants.{Asked, Refused, Brought, Ignored}
+use Rattle.pay_world.specs.declared.event.WorldFault.{WorldFault}
+use Rattle.pay_world.specs.declared.event.WorldFault.TheVariants.{Forged}
+use Rattle.pay_world.specs.declared.event.WorldReply.{WorldReply}
+use Rattle.pay_world.specs.declared.event.WorldReply.TheVariants.{Asked, Refused, Brought, Ignored}
 use Rattle.pay_world.specs.Actions.{Action, Asks, Brings, adds}
 use Rattle.pay_world.specs.Setting.{group_at, is_correct}
 use Rattle.pay_world.specs.Genuine.{is_same_body, is_forged_in}
 use Rattle.pay_world.specs.World.{WorldFields, setting_in, member_in, history_in, keys_in}
 
--- to which member it happens
+-- the member that an event happens to
 abbrev pub receiver : WorldEvent → ℕ
 receiver (Ask i v) = i
 receiver (Bring i bytes) = i
 
 -- ---- events as actions
 
--- a frame that opened at member i
+-- an authenticated frame at member i
 abbrev pub brought_to : ℕ → FrameFields → Action
 brought_to i f = Brings i f.from f.number f.body
 
--- what an event is to the member with these keys: bytes are an action exactly where they open there
+-- what an event is to the member with these keys: bytes are an action exactly if the member
+-- authenticates them
 abbrev pub action_with : KeyFields → WorldEvent → Option Action
 action_with k (Ask i v) = Some (Asks i v)
 action_with k (Bring i bytes) = option_map (brought_to i) (opened_in k bytes)
 
--- what it is where these are the correct members' keys
--- page: `action_of`: an ask is an action; brought bytes are one exactly where a frame of kinds 1 to
---   3 opens
+-- what an event is if these are the correct members' keys
+-- page: `action_of`: a submitted value is an action; received bytes are one exactly if a frame of
+--   kinds 1 to 3 is authenticated
 abbrev pub action_of : (ℕ → Option KeyFields) → WorldEvent → Option Action
 action_of keys e = option_and_then (λ k. action_with k e) (keys (receiver e))
 
@@ -57,12 +58,12 @@ is_unsent w f =
     && not (is_same_body f.body
     (slice_get (out (group_at (setting_in w) f.from) (history_in w f.from)) f.number))
 
--- Whether it brings a frame that the correct member which it names didn't send.
+-- Whether an event delivers a frame that the correct member which it names didn't send.
 abbrev pub is_forged_at : WorldFields → WorldEvent → Bool
 is_forged_at w e =
     option_map_or (is_forged_in (setting_in w) (history_in w)) (action_of (keys_in w) e) false
 
--- the fault of such an event
+-- the fault of an event with a forged frame
 abbrev pub forgery : WorldFields → WorldEvent → Option WorldFault
 forgery w e = if is_forged_at w e then Some (Forged w.answered) else None
 
@@ -72,12 +73,12 @@ added_in w e i = option_map_or (adds (setting_in w) i (history_in w i)) (action_
 
 -- ---- the answer
 
--- to a value of a member's own
+-- the answer to a value of a member's own
 abbrev pub answer_to_ask : Option MemberFault → ℕ → WorldReply
 answer_to_ask (Some fault) number = Refused fault
 answer_to_ask None number = Asked number
 
--- to bytes that were brought to it: what comes of them
+-- the answer to bytes that a member received: what comes of them
 abbrev pub IsBroughtReply : MemberFields → List ℕ → WorldReply → Type 0
 IsBroughtReply m bytes (Brought outcome) =
     IsOutcome m.genesis m.keys (events m.history) bytes outcome
@@ -92,15 +93,15 @@ IsReplyOf m (Ask i v) reply =
     (asks (events m.history))
 IsReplyOf m (Bring i bytes) reply = IsBroughtReply m bytes reply
 
--- the member's own, if it is there
+-- the member's own answer, if the member exists
 abbrev pub IsReplyFrom : Option MemberFields → WorldEvent → WorldReply → Type 0
 IsReplyFrom member e reply = MatchOption member (reply ≡ Ignored) (λ m. IsReplyOf m e reply)
 
 abbrev pub IsReply : WorldFields → WorldEvent → WorldReply → Type 0
 IsReply w e reply = IsReplyFrom (member_in w (receiver e)) e reply
 
--- Whether the member takes the event, if it is there: nothing refuses the value, and the bytes are
--- a frame whose number is the next one.
+-- Whether the member accepts the event, if the member exists: nothing refuses the value, or the
+-- bytes are a frame with the next number.
 abbrev pub IsTakenBy : WorldEvent → Option MemberFields → Type 0
 IsTakenBy (Ask i v) member =
     MatchOption member ⊥ (λ m. refusal m.genesis m.keys (events m.history) (entry.Ask v) ≡ None)
@@ -122,12 +123,12 @@ after_bring m bytes (Asked number) = m
 after_bring m bytes (Refused fault) = m
 after_bring m bytes Ignored = m
 
--- the member once it replied
+-- the member after its reply
 abbrev pub member_after : WorldEvent → WorldReply → MemberFields → MemberFields
 member_after (Ask i v) reply m = after_ask m v reply
 member_after (Bring i bytes) reply m = after_bring m bytes reply
 
--- its history is as much longer as these bytes make it
+-- the member's history is longer by what these bytes make it
 abbrev pub IsGrownBy : Option MemberFields → Option MemberFields → List ℕ → Type 0
 IsGrownBy None new bytes = Unit {0}
 IsGrownBy (Some old) None bytes = ⊥
@@ -135,8 +136,8 @@ IsGrownBy (Some old) (Some new) bytes =
     events new.history
     ≡ events old.history ++ option_to_list (event_in old.keys (events old.history) bytes)
 
--- The receiver replied, and its history is as much longer as the event adds; the others are as they
--- were.
+-- The receiver replied, and its history is longer by what the event adds. The other members are
+-- unchanged.
 pub record AnswersEvent (old new : WorldFields) (e : WorldEvent) (reply : WorldReply) : Type 0 where
   pub genesis : new.genesis ≡ old.genesis
   pub liars : new.liars ≡ old.liars
@@ -146,6 +147,6 @@ pub record AnswersEvent (old new : WorldFields) (e : WorldEvent) (reply : WorldR
   pub others : (i : ℕ) → i ≢ receiver e → member_in new i ≡ member_in old i
   pub histories : (i : ℕ) → history_in new i ≡ history_in old i ++ added_in old e i
 
--- one event more was answered; the count stays at the greatest number that it can hold
+-- one more event was answered; the count saturates
 abbrev pub one_more : ℕ → ℕ
 one_more answered = min (answered + 1) (2 ^ 64 - 1)

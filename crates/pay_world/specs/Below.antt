@@ -1,5 +1,5 @@
--- What the laws between members stand on: laws of one broadcast, of one member's channel and of
--- one book, gathered.
+-- The laws that the laws between members need: laws of one broadcast, of one member's channel and
+-- of one ledger, gathered.
 use Rattle.pay_echo.specs.Laws.{NotReadyAtFirst, EchoSetGrows, InEchoSet, InReadySet}
 use Rattle.pay_echo.specs.Laws.{InOtherReadySet, OwnEcho, OwnReady, SendCame, EchoCame, ReadyCame}
 use Rattle.pay_echo.specs.Laws.{SendIsEchoed, EchoCounts, ReadyCounts, WhyReady, WhyDelivered}
@@ -17,7 +17,8 @@ use Rattle.pay_book.specs.Laws.{SettledBookExists, SettledIsLargest, NobodyOwesO
 use Rattle.pay_book.specs.Laws.{BookKeepsTotal, EqualListsEqualBooks, SettledEntriesGrow}
 use Rattle.pay_book.specs.Laws.{SettledEntriesCompare, SettledEntriesWereAsked}
 
--- who is in the sets of one broadcast, what came, and why one is READY and delivers
+-- the members of the sets of one broadcast, the votes that came, and why a process is READY and
+-- delivers
 pub record OfBroadcasts : Type 0 where
   pub not_ready_at_first : NotReadyAtFirst
   pub echo_set_grows : EchoSetGrows
@@ -48,7 +49,7 @@ pub record OfSets : Type 0 where
   pub quorum_is_more : QuorumIsMore
   pub more_remain : MoreRemain
 
--- what was taken, what was sent, and the lists
+-- what was accepted, what was sent, and the lists
 pub record OfChannels : Type 0 where
   pub no_votes_at_first : NoVotesAtFirst
   pub votes_grow : VotesGrow
@@ -79,7 +80,7 @@ pub record Below : Type 0 where
   pub sets : OfSets
   pub channel : OfChannels
 
--- books and what is settled of lists
+-- ledgers and what is settled of lists
 pub record OfBooks : Type 0 where
   pub settled_book_exists : SettledBookExists
   pub settled_is_largest : SettledIsLargest

@@ -1,5 +1,5 @@
--- A world whose correct members know the same: they delivered the same, nothing that one of them
--- was asked for is missing, and their books are equal.
+-- A world with correct members that know the same: they delivered equal values, no value that one
+-- of them submitted is missing, and their ledgers are equal.
 use Rattle.std.specs.Prelude.{◌≡◌, ℕ, List, slice_get, Option, Some}
 use Rattle.pay_channel.specs.History.{delivered_at, list_of}
 use Rattle.pay_channel.specs.Asked.{asked_values}
@@ -22,13 +22,13 @@ lists_in w i = list_of (group_in w.genesis i) (history_in w i)
 abbrev pub book_in : WorldFields → ℕ → Standing
 book_in w i = book_after w.genesis i (history_in w i)
 
--- the values that it was asked to broadcast, each under its place
+-- the values that the member submitted, each under its place
 abbrev pub asked_in : WorldFields → ℕ → List (List ℕ)
 asked_in w i = asked_values (history_in w i)
 
 -- ---- of all correct members
 
--- they delivered the same values, and so have the same lists
+-- they delivered equal values, and so have equal lists
 pub record DeliveredAlike (w : WorldFields) : Type 0 where
   pub values :
       (i j a s : ℕ) → IsCorrect (setting_in w) i → IsCorrect (setting_in w) j
@@ -37,13 +37,13 @@ pub record DeliveredAlike (w : WorldFields) : Type 0 where
       (i j a : ℕ) → IsCorrect (setting_in w) i → IsCorrect (setting_in w) j
       → lists_in w i a ≡ lists_in w j a
 
--- each delivered every value that any of them was asked for, under the number that it got
+-- each delivered every value that any of them submitted, under the value's number
 pub record DeliveredAsked (w : WorldFields) : Type 0 where
   pub each :
       (i a s : ℕ) (v : List ℕ) → IsCorrect (setting_in w) i → IsCorrect (setting_in w) a
       → slice_get (asked_in w a) s ≡ Some v → delivered_in w i a s ≡ Some v
 
--- all have the same front and the same balances
+-- all have equal fronts and equal balances
 pub record BooksAlike (w : WorldFields) : Type 0 where
   pub each :
       (i j : ℕ) → IsCorrect (setting_in w) i → IsCorrect (setting_in w) j

@@ -1,15 +1,15 @@
 -- Groups and actions for the worked examples.
 use Rattle.std.specs.Prelude.{ℕ, ◌==◌, ◌||◌, List, [], ◌∷◌, Option}
-use Rattle.pay_frame.specs.declared.kind.Kind.{Kind}
-use Rattle.pay_frame.specs.declared.kind.Kind.TheVariants.{Send, Echo, Ready}
+use Rattle.pay_frame.specs.declared.body.Kind.{Kind}
+use Rattle.pay_frame.specs.declared.body.Kind.TheVariants.{Send, Echo, Ready}
 use Rattle.pay_frame.specs.Frame.{FrameFields, frame_bytes, frame_of_parts}
 use Rattle.pay_channel.specs.History.{body_of, delivered_at}
 use Rattle.pay_link.specs.Sealing.{sealed_frame}
 use Rattle.pay_link.specs.TestKeys.{test_keys_of}
 use Rattle.pay_member.specs.declared.event.Event.{Event as MemberEvent}
 use Rattle.pay_member.specs.declared.event.Event.TheVariants as entry
-use Rattle.pay_member.specs.declared.reply.Reply.TheVariants as entry_reply
-use Rattle.pay_member.specs.declared.entry.HistoryEntry.{HistoryEntry}
+use Rattle.pay_member.specs.declared.event.Reply.TheVariants as entry_reply
+use Rattle.pay_member.specs.declared.event.HistoryEntry.{HistoryEntry}
 use Rattle.pay_world.specs.declared.event.WorldEvent.{WorldEvent}
 use Rattle.pay_world.specs.declared.event.WorldEvent.TheVariants.{Ask, Bring}
 use Rattle.pay_world.specs.Setting.{Setting, group_at}
@@ -22,7 +22,7 @@ A = 65 ∷ []
 abbrev pub B : List ℕ
 B = 66 ∷ []
 
--- a frame about number 0 of account 3 is brought to member k
+-- a frame about number 0 of account 3 reaches member k
 abbrev pub of_3 : Kind → ℕ → ℕ → ℕ → List ℕ → Action
 of_3 kind k from number v = Brings k from number (body_of kind 3 0 v)
 
@@ -30,15 +30,15 @@ of_3 kind k from number v = Brings k from number (body_of kind 3 0 v)
 abbrev pub of_0 : Kind → ℕ → ℕ → ℕ → List ℕ → Action
 of_0 kind k from number v = Brings k from number (body_of kind 0 0 v)
 
--- members 0 to 3, of which one may be faulty, and 3 is
+-- members 0 to 3, at most one of them faulty, and 3 is
 abbrev pub setting_of_four : Setting
 setting_of_four = record { members = 4; faults = 1; faulty = λ i. i == 3 }
 
--- the same with 2 faulty too: one more than may be
+-- these members, with 2 faulty too: one more than allowed
 abbrev pub two_liars : Setting
 two_liars = record { members = 4; faults = 1; faulty = λ i. i == 2 || i == 3 }
 
--- members 0 to 2, of which one may be faulty, and 2 is: N = 3f
+-- members 0 to 2, at most one of them faulty, and 2 is: N = 3f
 abbrev pub three : Setting
 three = record { members = 3; faults = 1; faulty = λ i. i == 2 }
 
@@ -46,10 +46,10 @@ three = record { members = 3; faults = 1; faulty = λ i. i == 2 }
 abbrev pub first_of : Setting → List Action → ℕ → ℕ → Option (List ℕ)
 first_of w actions i a = delivered_at (group_at w i) (history_by w actions i) a 0
 
--- ---- with a liar that says B to one and A to another
+-- ---- with a faulty member that says B to one member and A to another
 
--- Member 0 is asked for A and member 3 lies. 3 echoes A to 0 and another value to 1, and is never
--- READY. Some frames come twice or too early, and 0, 1 and 2 deliver A all the same.
+-- Member 0 submits A, and member 3 is faulty. Member 3 echoes A to 0 and another value to 1, and is
+-- never READY. Some frames come twice or too early, and 0, 1 and 2 still deliver A.
 abbrev pub with_a_liar : List Action
 with_a_liar =
     Asks 0 A
@@ -64,7 +64,7 @@ with_a_liar =
     ∷ of_0 Ready 1 0 2 A ∷ of_0 Ready 1 2 1 A
     ∷ []
 
--- ---- with more liars than may be
+-- ---- with more faulty members than allowed
 
 -- the two are READY for A to 0, and for B to 1
 abbrev pub by_two_liars : List Action
@@ -87,7 +87,7 @@ by_a_forged_frame =
 
 -- ---- with N = 3f
 
--- 2 echoes A to both and is READY to 0 alone; each took all that the other sent
+-- 2 echoes A to both and is READY only to 0; each accepted all that the other sent
 abbrev pub of_three : List Action
 of_three =
     Asks 0 A
@@ -107,32 +107,32 @@ abbrev pub send_at_1 : ℕ → MemberEvent
 send_at_1 number =
     entry.Taken (record { frame = frame_of_parts 0 1 number (body_of Send 0 0 A) []; key = [] })
 
--- 1 is asked for B and for the state of account 0, and a SEND under this number comes
+-- 1 submits B, the state of account 0 is requested, and a SEND under this number comes
 abbrev pub stored_at_1 : ℕ → List HistoryEntry
 stored_at_1 number =
     entry_with (entry.Ask B) ∷ entry_with (entry.Query 0) ∷ entry_with (send_at_1 number) ∷ []
 
 -- ---- events in bytes
 
--- members 0 to 3, of which one may lie, and 3 does
+-- members 0 to 3, at most one of them faulty, and 3 is
 abbrev pub liar_of_four : LiarFields
 liar_of_four = record { members = 4; faults = 1; liars = 3 ∷ [] }
 
--- the SEND of 0's A to 1, sealed with their test key
+-- the SEND of 0's A to 1, encoded with their test key
 abbrev pub sealed_send : FrameFields
 sealed_send = sealed_frame (test_keys_of 4 0) 1 0 (body_of Send 0 0 A)
 
--- 1 is asked for B and 0 for A, and that SEND comes to 1 twice
+-- 1 submits B and 0 submits A, and that SEND comes to 1 twice
 abbrev pub in_bytes : List WorldEvent
 in_bytes =
     Ask 1 B ∷ Ask 0 A
     ∷ Bring 1 (frame_bytes sealed_send) ∷ Bring 1 (frame_bytes sealed_send)
     ∷ []
 
--- ---- with a member that has forgotten
+-- ---- with a member that lost state
 
--- Member 3 sent A to all others, who echoed it, are READY for it and deliver it. Then it is asked
--- for B under the same number, and is brought all that they sent.
+-- Member 3 sent A to all others, who echoed it, are READY for it and deliver it. Then it submits B
+-- under this number, and receives all that they sent.
 abbrev pub by_a_forgetting_member : List Action
 by_a_forgetting_member =
     of_3 Send 0 3 0 A ∷ of_3 Send 1 3 0 A ∷ of_3 Send 2 3 0 A

@@ -1,9 +1,9 @@
--- The number and the name under which each fault is printed.
+-- The number and the name that each fault is printed with.
 use Rattle.std.specs.Prelude.{ℕ, List, ◌++◌, codes, decimal}
-use Rattle.pay_world.specs.declared.liar_fault.LiarFault.{LiarFault}
-use Rattle.pay_world.specs.declared.liar_fault.LiarFault.TheVariants as liar
-use Rattle.pay_world.specs.declared.fault.WorldFault.{WorldFault}
-use Rattle.pay_world.specs.declared.fault.WorldFault.TheVariants as world
+use Rattle.pay_world.specs.declared.liars.LiarFault.{LiarFault}
+use Rattle.pay_world.specs.declared.liars.LiarFault.TheVariants as liar
+use Rattle.pay_world.specs.declared.event.WorldFault.{WorldFault}
+use Rattle.pay_world.specs.declared.event.WorldFault.TheVariants as world
 
 abbrev pub liar_fault_entry : LiarFault → ℕ × List ℕ
 liar_fault_entry liar.Memory = (0, codes "Memory")

@@ -4,6 +4,6 @@ use Rattle.std.specs.List.{range_with_len}
 use Rattle.pay_link.specs.Keys.{KeyFields}
 use Rattle.pay_link.specs.TestKeys.{test_keys_of}
 
--- each member's, at its place
+-- each member's test keys, at its place
 abbrev pub group_test_keys : ℕ → List KeyFields
 group_test_keys members = map (test_keys_of members) (range_with_len 0 members)

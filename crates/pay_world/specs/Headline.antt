@@ -19,28 +19,28 @@ use Rattle.pay_world.specs.Actions.{Action, history_by}
 abbrev pub lists_by : Setting → List Action → ℕ → ℕ → List (List ℕ)
 lists_by w actions i = list_of (group_at w i) (history_by w actions i)
 
--- the book of member i: all is settled that its lists allow
+-- the ledger of member i: all is settled that its lists allow
 abbrev pub book_by : Setting → List ℕ → List Action → ℕ → Standing
 book_by w opening actions i = settled_book opening (lists_by w actions i)
 
 -- the entries of account a that member i has settled: the first of its list, as many as the front
--- of its book says
+-- of its ledger says
 abbrev pub settled_by : Setting → List ℕ → List Action → ℕ → ℕ → List Entry
 settled_by w opening actions i a =
     take (slice_index (book_by w opening actions i).front a)
     (entries_of (length opening) (lists_by w actions i) a)
 
--- the values of account a that member i has settled wholly, void or not
+-- the values of account a that member i has wholly settled, void or not
 abbrev pub settled_values_by : Setting → List ℕ → List Action → ℕ → ℕ → List (List ℕ)
 settled_values_by w opening actions i a = settled_values opening (lists_by w actions i) a
 
--- the entries of all that member a was asked to broadcast
+-- the entries of all values that member a submitted
 abbrev pub asked_by : Setting → List ℕ → List Action → ℕ → List Entry
 asked_by w opening actions a =
     flat_map (entries_in (length opening) a) (asked_values (history_by w actions a))
 
--- The book stands at the largest front that the lists allow, and shows the balances there. Nobody
--- owes, and all balances together are what all accounts opened with.
+-- The ledger stands at the largest front that the lists allow, and shows the balances there. No
+-- balance is below zero, and all balances together are what all accounts opened with.
 pub record IsBookOf (opening : List ℕ) (lists : ℕ → List (List ℕ)) (book : Standing) : Type 0 where
   pub largest : IsLargest opening (entries_of (length opening) lists) (slice_index book.front)
   pub balances :
@@ -52,10 +52,10 @@ pub record IsBookOf (opening : List ℕ) (lists : ℕ → List (List ℕ)) (book
 
 -- ---- between correct members
 
--- Whatever prefixes of these actions two correct members have come to: of what they have settled of
--- an account, one is a prefix of the other. What a member settled, it has settled for good, and
--- of a correct owner it settles what the owner was asked for, in that order. Each book is what
--- the member's lists make it, and members with equal lists have equal books.
+-- Two correct members may have come to any prefixes of these actions. Of what they have settled of
+-- an account, one list is a prefix of the other. What a member settled stays settled, and of a
+-- correct owner it is what the owner submitted, in that order. Each ledger is what the member's
+-- lists make it, and members with equal lists have equal ledgers.
 pub record Headline (w : Setting) (opening : List ℕ) (actions : List Action) : Type 0 where
   pub agree :
       (one other : List Action) (i j a : ℕ) → IsPrefix one actions → IsPrefix other actions

@@ -1,4 +1,4 @@
--- What holds of lists and books by genuine actions, as statements. Each is proved as a public law.
+-- Statements about lists and ledgers by genuine actions. Each is proved as a public law.
 use Rattle.std.specs.Prelude.{◌≡◌, ◌⊎◌, ℕ, List, length}
 use Rattle.std.specs.List.{flat_map}
 use Rattle.pay_channel.specs.Prefix.{IsPrefix}
@@ -10,7 +10,7 @@ use Rattle.pay_world.specs.Genuine.{AreGenuine}
 use Rattle.pay_world.specs.Convergence.{AllTaken}
 use Rattle.pay_world.specs.Headline.{lists_by, book_by, settled_by, settled_values_by, Headline}
 
--- ---- books
+-- ---- ledgers
 
 abbrev pub HeadlineHolds : Type 0
 HeadlineHolds =
@@ -46,7 +46,7 @@ ListStays =
     (w : Setting) (one actions : List Action) (i a : ℕ) → IsPrefix one actions
     → IsPrefix (lists_by w one i a) (lists_by w actions i a)
 
--- where all was taken
+-- if everything was accepted
 abbrev pub ListsAreEqual : Type 0
 ListsAreEqual =
     (w : Setting) (actions : List Action) (i j : ℕ)
@@ -63,7 +63,8 @@ ListIsComplete =
 
 -- ---- settled values
 
--- their entries are the first of the settled entries; the others are of one value more
+-- the entries of wholly settled values are the first of the settled entries; the other settled
+-- entries belong to one more value
 abbrev pub SettledValuesMakeBeginning : Type 0
 SettledValuesMakeBeginning =
     (w : Setting) (opening : List ℕ) (actions : List Action) (i a : ℕ)

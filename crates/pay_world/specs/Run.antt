@@ -9,7 +9,7 @@ use Rattle.pay_link.specs.Checked.{bytes_of}
 use Rattle.pay_link.specs.Keys.{KeyFields}
 use Rattle.pay_member.specs.declared.event.Event.{Event as MemberEvent}
 use Rattle.pay_member.specs.declared.event.Event.TheVariants as entry
-use Rattle.pay_member.specs.declared.entry.HistoryEntry.{HistoryEntry}
+use Rattle.pay_member.specs.declared.event.HistoryEntry.{HistoryEntry}
 use Rattle.pay_member.specs.Events as stored
 use Rattle.pay_member.specs.Legal.{Legal}
 use Rattle.pay_world.specs.declared.event.WorldEvent.{WorldEvent}
@@ -20,15 +20,15 @@ use Rattle.pay_world.specs.Liars.{LiarFields, is_listed, setting_of}
 use Rattle.pay_world.specs.World.{WorldFields, history_in, keys_in}
 use Rattle.pay_world.specs.Answer.{action_of, actions_of}
 
--- the keys of those that don't lie
+-- the keys of the correct members
 abbrev pub correct_keys : List KeyFields → LiarFields → ℕ → Option KeyFields
 correct_keys keys l i = if is_listed l.liars i then None else slice_get keys i
 
--- what the events are to the correct members
+-- the events as actions at the correct members
 abbrev pub actions_by : List KeyFields → LiarFields → List WorldEvent → List Action
 actions_by keys l events = actions_of (correct_keys keys l) events
 
--- The history of a correct member by these events: from the left, what it took of them.
+-- The history of a correct member by these events: what it accepted of them, from the left.
 abbrev pub history_of : List KeyFields → LiarFields → List WorldEvent → ℕ → List Event
 history_of keys l events i = history_by (setting_of l) (actions_by keys l events) i
 
@@ -42,8 +42,7 @@ pub record IsFirstForged (keys : List KeyFields) (l : LiarFields)
   pub is : action_of (correct_keys keys l) event ≡ Some action
   pub forged : ¬ (IsGenuine (setting_of l) (actions_by keys l (take k events)) action)
 
--- The world of this group after these events, none of which is forged: it has the histories by
--- them.
+-- The world of this group after these events, without a forged one: it has the histories by them.
 pub record IsWorldAfter (g : GenesisFields) (keys : List KeyFields) (l : LiarFields)
     (events : List WorldEvent) (w : WorldFields) : Type 0 where
   pub genesis : w.genesis ≡ g
@@ -55,24 +54,25 @@ pub record IsWorldAfter (g : GenesisFields) (keys : List KeyFields) (l : LiarFie
 
 -- ---- stored histories
 
--- The member with these keys can have a stored history by which it took these events.
+-- The member with these keys can have a stored history with these events.
 pub record MayHaveTaken (g : GenesisFields) (k : KeyFields) (taken : List Event) : Type 0 where
   pub history : List HistoryEntry
   pub legal : Legal g k history
   pub took : stored.events history ≡ taken
 
--- what an event of member i's history is to the group: a frame's bytes are brought to that member,
--- and a query is nothing
+-- what an event of member i's history is to the group: a frame's bytes reach that member, and a
+-- query is nothing
 abbrev pub event_at : ℕ → MemberEvent → Option WorldEvent
 event_at i (entry.Ask v) = Some (Ask i v)
 event_at i (entry.Taken c) = Some (Bring i (bytes_of c))
 event_at i (entry.Query a) = None
 
--- The asks and the frames that stand in member i's history, as events of the group, in their order.
+-- The submitted values and the frames in member i's history, as events of the group, in their
+-- order.
 unfoldable pub events_of : ℕ → List HistoryEntry → List WorldEvent
 events_of i history = filter_map (λ e. event_at i e.event) history
 
--- what is asked for or brought are bytes
+-- the submitted value, or the received bytes, are bytes
 abbrev pub IsOfBytes : WorldEvent → Type 0
 IsOfBytes (Ask i v) = IsBytes v
 IsOfBytes (Bring i bytes) = IsBytes bytes

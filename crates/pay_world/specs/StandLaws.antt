@@ -1,4 +1,4 @@
--- What holds between correct members' histories, as statements. Each is proved as a public law.
+-- Statements about correct members' histories. Each is proved as a public law.
 use Rattle.std.specs.Prelude.{◌≡◌, ◌⊎◌, ℕ, ◌≤◌, List, [], ◌++◌, length, slice_get, Some}
 use Rattle.pay_channel.specs.Prefix.{IsPrefix}
 use Rattle.pay_channel.specs.History.{Event, seqs, delivered_at, list_of}
@@ -19,7 +19,7 @@ StandsByOneMore =
     (w : Setting) (old new : ℕ → List Event) (k : ℕ) (e : Event)
     → HasFewFaulty w → IsLonger old new k e → IsAllowed w old k e → Stands w old → Stands w new
 
--- so by one genuine action more
+-- correct members stand after one more genuine action
 abbrev pub StandsByAction : Type 0
 StandsByAction =
     (w : Setting) (old new : ℕ → List Event) (d : Action)
@@ -33,7 +33,7 @@ GenuineStands =
 
 -- ---- two correct members, each at a moment of its own
 
--- they deliver no two values
+-- two correct members deliver no two values
 abbrev pub Agreement : Type 0
 Agreement =
     (w : Setting) (histories one other : ℕ → List Event) (i j a s : ℕ) (v u : List ℕ)
@@ -42,7 +42,7 @@ Agreement =
     → delivered_at (group_at w i) (one i) a s ≡ Some v
     → delivered_at (group_at w j) (other j) a s ≡ Some u → v ≡ u
 
--- of their lists of an account one is a prefix of the other
+-- one of their lists of an account is a prefix of the other
 abbrev pub StandingListsCompare : Type 0
 StandingListsCompare =
     (w : Setting) (histories one other : ℕ → List Event) (i j a : ℕ)
@@ -53,7 +53,7 @@ StandingListsCompare =
 
 -- ---- of a correct owner
 
--- what is delivered under a number is the value that it was asked for under it
+-- what is delivered under a number is the value that the owner submitted under it
 abbrev pub Integrity : Type 0
 Integrity =
     (w : Setting) (histories : ℕ → List Event) (i a s : ℕ) (v : List ℕ)
@@ -74,23 +74,23 @@ NothingIsTakenBack =
     (w : Setting) (old new : ℕ → List Event) (i a : ℕ) → Grow old new
     → IsPrefix (list_of (group_at w i) (old i) a) (list_of (group_at w i) (new i) a)
 
--- ---- where nothing is under way between correct members
+-- ---- the moment at which nothing is in flight between correct members
 
--- they delivered the same
+-- they delivered equal values
 abbrev pub Convergence : Type 0
 Convergence =
     (w : Setting) (histories : ℕ → List Event) (i j a s : ℕ)
     → Stands w histories → HasFewFaulty w → AllTaken w histories → IsCorrect w i → IsCorrect w j
     → delivered_at (group_at w i) (histories i) a s ≡ delivered_at (group_at w j) (histories j) a s
 
--- and have the same lists
+-- they have equal lists
 abbrev pub ListsConverge : Type 0
 ListsConverge =
     (w : Setting) (histories : ℕ → List Event) (i j : ℕ)
     → Stands w histories → HasFewFaulty w → AllTaken w histories → IsCorrect w i → IsCorrect w j
     → list_of (group_at w i) (histories i) ≡ list_of (group_at w j) (histories j)
 
--- what a correct owner was asked for is delivered
+-- what a correct owner submitted is delivered
 abbrev pub AsksAreDelivered : Type 0
 AsksAreDelivered =
     (w : Setting) (histories : ℕ → List Event) (i a s : ℕ) (v : List ℕ)
@@ -98,7 +98,7 @@ AsksAreDelivered =
     → slice_get (asked_values (histories a)) s ≡ Some v
     → delivered_at (group_at w i) (histories i) a s ≡ Some v
 
--- and is the owner's list
+-- what a correct owner submitted is the owner's list
 abbrev pub ListIsAllAsked : Type 0
 ListIsAllAsked =
     (w : Setting) (histories : ℕ → List Event) (i a : ℕ)

@@ -1,4 +1,4 @@
--- What holds between the histories of correct members as they stand at one moment.
+-- What holds between the histories of correct members at one moment.
 use Rattle.std.specs.Prelude.{◌≡◌, ◌≢◌, ℕ, ◌+◌, ◌*◌, ◌<◌, List, [], ◌∷◌, ◌++◌, slice_get, Some, All}
 use Rattle.pay_frame.specs.Frame.{BodyFields}
 use Rattle.pay_echo.specs.Broadcast.{Vote, size, echo_set, readied}
@@ -20,9 +20,9 @@ pub record HasQuorum (w : Setting) (histories : ℕ → List Event) (a s : ℕ) 
       w.members + w.faults
       < 2 * size w.members (echo_set (group_at w holder) (votes_at histories holder a s) v)
 
--- Authenticity: what one correct member took from another is a prefix of all that the other sent.
--- And the rule of READY: for each correct member's READY there is a quorum of ECHOs for its
--- value at some correct member.
+-- Authenticity: what a correct member accepted from another is a prefix of all that the other sent.
+-- The rule of READY: for each correct member's READY there is a quorum of ECHOs for its value at
+-- some correct member.
 pub record Stands (w : Setting) (histories : ℕ → List Event) : Type 0 where
   pub proper : (i : ℕ) → IsCorrect w i → All (IsEvent (group_at w i)) (histories i)
   pub authentic :
@@ -33,15 +33,15 @@ pub record Stands (w : Setting) (histories : ℕ → List Event) : Type 0 where
       → readied (group_at w i) (votes_at histories i a s) ≡ Some v
       → HasQuorum w histories a s v
 
--- ---- one event more
+-- ---- one more event
 
--- member k took one event more, and nobody else any
+-- member k had one more event, and nobody else any
 pub record IsLonger (old new : ℕ → List Event) (k : ℕ) (e : Event) : Type 0 where
   pub here : new k ≡ old k ++ e ∷ []
   pub others : (i : ℕ) → i ≢ k → new i ≡ old i
 
--- Where k is correct, it may take the event, and a body of a correct member is the next one of
--- all that this member sent.
+-- If k is correct, it may accept the event, and a body of a correct member is the next one of all
+-- that this member sent.
 pub record IsAllowed (w : Setting) (old : ℕ → List Event) (k : ℕ) (e : Event) : Type 0 where
   pub proper : IsCorrect w k → IsEvent (group_at w k) e
   pub genuine :

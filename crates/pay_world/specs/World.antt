@@ -1,4 +1,4 @@
--- A world: the members of a group in one process, and what each took so far.
+-- A world: the members of a group in one process, and the events of each.
 use Rattle.std.specs.Prelude.{◌≡◌, ℕ, List, [], length, slice_get, map, Option, Some, None, is_some}
 use Rattle.std.specs.Prelude.{option_map, option_and_then, if◌then◌else◌}
 use Rattle.std.specs.Option.{option_map_or}
@@ -14,12 +14,12 @@ use Rattle.pay_world.specs.Liars.{LiarFields, AreLiars, AreLiarsOf, is_listed, s
 pub record WorldFields : Type 0 where
   pub genesis : GenesisFields
   pub liars : LiarFields
-  -- each correct member at its place, and nothing at a liar's
+  -- each correct member at its place, and nothing at a faulty member's
   pub members : List (Option MemberFields)
-  -- how many events were answered
+  -- the count of answered events
   pub answered : ℕ
 
--- which of its members lie
+-- the members that are faulty
 abbrev pub setting_in : WorldFields → Setting
 setting_in w = setting_of w.liars
 
@@ -29,7 +29,7 @@ setting_in w = setting_of w.liars
 abbrev pub member_at : List (Option MemberFields) → ℕ → Option MemberFields
 member_at members i = option_and_then (λ m. m) (slice_get members i)
 
--- the events that it took; none, where there is no such member
+-- the events of a member, or none if there is no such member
 abbrev pub events_at : List (Option MemberFields) → ℕ → List Event
 events_at members i = option_map_or (λ m. events m.history) (member_at members i) []
 
@@ -43,7 +43,7 @@ history_in w i = events_at w.members i
 abbrev pub keys_in : WorldFields → ℕ → Option KeyFields
 keys_in w i = option_map (λ m. m.keys) (member_in w i)
 
--- ---- what is true of every world
+-- ---- what holds of every world
 
 -- member i of this genesis, with its own keys
 pub record IsMemberAt (g : GenesisFields) (i : ℕ) (m : MemberFields) : Type 0 where
@@ -51,7 +51,7 @@ pub record IsMemberAt (g : GenesisFields) (i : ℕ) (m : MemberFields) : Type 0 
   pub own : m.keys.own ≡ i
   pub keys : IsKeysOf g m.keys
 
--- The correct members are there, each at its place, and between their histories it stands.
+-- The correct members are there, each at its place, and `Stands` holds between their histories.
 pub record IsWorld (w : WorldFields) : Type 0 where
   pub genesis : IsGenesis w.genesis
   pub liars : AreLiars w.liars
@@ -61,7 +61,7 @@ pub record IsWorld (w : WorldFields) : Type 0 where
   pub each : (i : ℕ) (m : MemberFields) → member_in w i ≡ Some m → IsMemberAt w.genesis i m
   pub stands : Stands (setting_in w) (history_in w)
 
--- ---- a new one
+-- ---- a new world
 
 -- Keys of all members of this genesis, each member's at its place.
 pub record AreKeysOf (g : GenesisFields) (keys : List KeyFields) : Type 0 where
@@ -69,7 +69,7 @@ pub record AreKeysOf (g : GenesisFields) (keys : List KeyFields) : Type 0 where
   pub own : (i : ℕ) (k : KeyFields) → slice_get keys i ≡ Some k → k.own ≡ i
   pub of : (i : ℕ) (k : KeyFields) → slice_get keys i ≡ Some k → IsKeysOf g k
 
--- what stands at the place of the member with these keys, as long as it took nothing
+-- what stands at the place of the member with these keys before it has an event
 abbrev pub fresh_place : GenesisFields → LiarFields → KeyFields → Option MemberFields
 fresh_place g l k =
     if is_listed l.liars k.own then None else Some (record { genesis = g; keys = k; history = [] })

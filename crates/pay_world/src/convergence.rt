@@ -1,4 +1,4 @@
-//! Whether anything is under way between the correct members of a world.
+//! Tests of whether anything is in flight between the correct members of a world.
 
 ghost use Rattle.std.specs.Prelude.{◌≡◌, ◌↔◌, ◌<◌, ℕ, true};
 ghost use Rattle.pay_world.specs.Convergence.{AllTaken, HasTaken};
@@ -12,10 +12,10 @@ use pay_echo::Instance;
 use pay_echo::laws::sizes_of_sets;
 use pay_member::laws::book_of_events;
 
-/// Whether each correct member took all that each other correct one sent.
+/// Returns whether each correct member of `world` accepted all that each other correct member sent.
 ///
-/// Then all of them delivered the same and have equal books, and nothing that one of them was asked
-/// to broadcast is missing.
+/// Then all of them delivered equal values and have equal ledgers, and no value that one of them
+/// submitted is missing.
 // promise: convergence of a world (exact, delivered, asked, books)
 pub fn all_taken<I: Instance + Drop, B: Settle + Drop>(world: &World<I, B>) -> bool
     ensures exact { (result ≡ true) ↔ AllTaken (setting_in world.now) (history_in world.now) }
@@ -34,7 +34,7 @@ pub fn all_taken<I: Instance + Drop, B: Settle + Drop>(world: &World<I, B>) -> b
     true
 }
 
-// Whether a member, if it is a correct one, took all that each other correct one sent.
+// Returns whether `receiver`, if it is correct, accepted all that each other correct member sent.
 fn has_taken_all<I: Instance + Drop, B: Settle + Drop>(world: &World<I, B>, receiver: u16) -> bool
     ensures { (result ≡ true)
         ↔ ((j : ℕ) → HasTaken (setting_in world.now) (history_in world.now) receiver j) }
@@ -47,8 +47,8 @@ fn has_taken_all<I: Instance + Drop, B: Settle + Drop>(world: &World<I, B>, rece
     true
 }
 
-// Whether a member took all that another one sent, if both are correct: there is nothing under the
-// number that it takes next.
+// Returns whether `receiver` accepted all that `sender` sent, if both are correct: nothing has the
+// number that `receiver` expects next.
 fn has_taken<I: Instance + Drop, B: Settle + Drop>(
     world: &World<I, B>,
     receiver: u16,

@@ -1,24 +1,24 @@
-//! Worked examples of what happens in a group, computed from the definitions alone: the premises
-//! of the laws can be met, and none of them can be left out.
+//! Worked examples of what happens in a group, computed from the definitions alone. They show that
+//! the premises of the laws can hold, and that none of them can be left out.
 
 ghost use Rattle.std.specs.Prelude.{◌≡◌, ◌≢◌, ◌≤◌, true, [], ◌∷◌, Some, None};
-ghost use Rattle.pay_frame.specs.declared.kind.Kind.TheVariants.{Send, Ready};
-ghost use Rattle.pay_frame.specs.Frame.{frame_bytes, frame_of_parts};
 ghost use Rattle.pay_channel.specs.Asked.{asked_values};
 ghost use Rattle.pay_channel.specs.History.{Ask, From, body_of, list_of};
 ghost use Rattle.pay_echo.specs.Broadcast.{size};
+ghost use Rattle.pay_frame.specs.Frame.{frame_bytes, frame_of_parts};
+ghost use Rattle.pay_frame.specs.declared.body.Kind.TheVariants.{Send, Ready};
 ghost use Rattle.pay_member.specs.Events.{events};
 ghost use Rattle.pay_member.specs.Remembering.{HasForgotten};
-ghost use Rattle.pay_world.specs.Setting.{HasFewFaulty, group_at};
 ghost use Rattle.pay_world.specs.Actions.{Asks, history_by, actions_in};
-ghost use Rattle.pay_world.specs.Genuine.{AreGenuine, is_forged};
 ghost use Rattle.pay_world.specs.Convergence.{AllTaken, HasHeardAll};
+ghost use Rattle.pay_world.specs.Examples.{A, B, of_3, of_0, first_of, setting_of_four, two_liars};
+ghost use Rattle.pay_world.specs.Examples.{three, by_a_forgetting_member, with_a_liar};
+ghost use Rattle.pay_world.specs.Examples.{by_two_liars, by_a_forged_frame, of_three, stored_at_1};
+ghost use Rattle.pay_world.specs.Examples.{liar_of_four, in_bytes};
+ghost use Rattle.pay_world.specs.Genuine.{AreGenuine, is_forged};
 ghost use Rattle.pay_world.specs.GroupKeys.{group_test_keys};
 ghost use Rattle.pay_world.specs.Run.{events_of, history_of};
-ghost use Rattle.pay_world.specs.Examples.{A, B, of_3, of_0, first_of, setting_of_four, two_liars};
-ghost use Rattle.pay_world.specs.Examples.{three, by_a_forgetting_member};
-ghost use Rattle.pay_world.specs.Examples.{with_a_liar, by_two_liars, by_a_forged_frame};
-ghost use Rattle.pay_world.specs.Examples.{of_three, stored_at_1, liar_of_four, in_bytes};
+ghost use Rattle.pay_world.specs.Setting.{HasFewFaulty, group_at};
 
 use crate::event::WorldEvent;
 use crate::laws::forged_is_told;
@@ -26,8 +26,8 @@ use pay_hmac::laws::tag_length;
 use pay_link::laws::shared_test_keys;
 use pay_member::laws::what_is_brought;
 
-/// Of four members one lies, frames come twice and too early, and all premises are met: the
-/// correct members deliver the same.
+/// States an example with one faulty member of four. Frames come twice and too early, and all
+/// premises hold: the correct members deliver equal values.
 // promise: premises
 pub fn one_liar_of_four()
     ensures few { HasFewFaulty setting_of_four }
@@ -40,8 +40,9 @@ pub fn one_liar_of_four()
     forged_is_told();
 }
 
-/// A member that forgot what it sent, and is asked for another value under that number, took all
-/// that the correct members sent, who took all of each other: it has the evidence.
+/// States an example of a member that lost state and submits another value under a used number. It
+/// accepted all that the correct members sent, and they accepted all of each other: it has the
+/// evidence.
 // promise: premises
 pub fn forgetting_member_of_four()
     ensures few { HasFewFaulty setting_of_four }
@@ -58,7 +59,8 @@ pub fn forgetting_member_of_four()
     forged_is_told();
 }
 
-/// With two liars where one may lie, two correct members deliver different values.
+/// States that two correct members deliver different values, with two faulty members while the
+/// genesis allows one.
 // promise: premises
 pub fn two_liars_of_four()
     ensures liars { size 4 two_liars.faulty ≡ 2 }
@@ -69,7 +71,8 @@ pub fn two_liars_of_four()
     forged_is_told();
 }
 
-/// So they do with one liar, where a single frame is forged.
+/// States that two correct members deliver different values, with one faulty member and a single
+/// forged frame.
 // promise: premises
 pub fn one_forged_frame()
     ensures few { HasFewFaulty setting_of_four }
@@ -78,8 +81,8 @@ pub fn one_forged_frame()
     ensures one { first_of setting_of_four by_a_forged_frame 1 3 ≡ Some B }
 {}
 
-/// With three members of which one may lie, N = 3f. What one correct member delivers the other
-/// doesn't, though each took all that the other sent.
+/// States an example of three members, one of them faulty, so that N = 3f. One correct member
+/// delivers what the other doesn't, though each accepted all that the other sent.
 // promise: premises
 pub fn one_liar_of_three()
     ensures few { size 3 three.faulty ≤ three.faults }
@@ -91,8 +94,9 @@ pub fn one_liar_of_three()
     forged_is_told();
 }
 
-/// An ask and a frame of a stored history are actions, a query is none, and the history is the one
-/// by them. It isn't where the frame came out of turn, as in no history that a member can have.
+/// States that a submitted value and a frame of a stored history are actions, and a query isn't.
+/// The history is the one made by them. It isn't if the frame came out of turn, and no member can
+/// have such a history.
 // promise: premises
 pub fn stored_history_of_four()
     ensures actions { actions_in 1 (stored_at_1 0) ≡ Asks 1 B ∷ of_0 Send 1 0 0 A ∷ [] }
@@ -102,9 +106,10 @@ pub fn stored_history_of_four()
         ≢ history_by setting_of_four (actions_in 1 (stored_at_1 1)) 1 }
 {}
 
-/// Of events in bytes, where all have their test keys, a member takes its own ask and the frame
-/// that opens and is in turn, but neither another's ask nor that frame again. As events, the stored
-/// history is the ask and the bytes of its frame.
+/// States an example of events in bytes, with test keys for all members. A member accepts its own
+/// submitted value and the authenticated frame that is in turn. It accepts neither another's value
+/// nor that frame again. As events, the stored history is the submitted value and the bytes of its
+/// frame.
 // promise: premises
 pub fn events_of_four_in_bytes()
     ensures taken { history_of (group_test_keys 4) liar_of_four in_bytes 1

@@ -1,23 +1,29 @@
-//! Laws between members. Each function's contract is the law. Its body is empty, or only names
-//! the laws that it stands on.
+//! Laws between members. The functions do nothing, or only name the laws that their proofs need:
+//! their contracts are the laws.
 
-ghost use Rattle.pay_world.specs.Below.{Below, OfBooks};
+ghost use Rattle.std.specs.Prelude.{◌≡◌, ◌<◌, ◌↔◌, length};
 ghost use Rattle.pay_world.specs.ActionLaws.{NoHistoryAtFirst, HistoryByOneMore, HistoriesGrow};
 ghost use Rattle.pay_world.specs.ActionLaws.{LegalHistoryByActions, NoActionIsGenuine};
 ghost use Rattle.pay_world.specs.ActionLaws.{GenuineByOneMore, PrefixIsGenuine, GenuineByPlace};
 ghost use Rattle.pay_world.specs.ActionLaws.{CorrectIsTold, ForgedIsTold, NoneForgedIsTold};
+ghost use Rattle.pay_world.specs.Below.{Below, OfBooks};
+ghost use Rattle.pay_world.specs.HeadlineLaws.{HeadlineHolds, BooksConverge, NoListForks};
+ghost use Rattle.pay_world.specs.HeadlineLaws.{ListWasAsked, ListStays, ListsAreEqual};
+ghost use Rattle.pay_world.specs.HeadlineLaws.{ListIsComplete, SettledValuesMakeBeginning};
+ghost use Rattle.pay_world.specs.HeadlineLaws.{NoSettledValueForks, SettledValuesStay};
+ghost use Rattle.pay_world.specs.HeadlineLaws.{SettledValuesWereAsked};
+ghost use Rattle.pay_world.specs.Liars.{LiarFields, AreMembers, LiarsAreDistinct, AreLiars};
+ghost use Rattle.pay_world.specs.Liars.{liar_fault};
+ghost use Rattle.pay_world.specs.NoticeLaws.{ListenerDelivers, ListedIsNoticed, DeliveredIsNoticed};
+ghost use Rattle.pay_world.specs.RunLaws.{AnsweredIsUnforged, HistoryIsLegal, LegalHistoryByEvents};
+ghost use Rattle.pay_world.specs.RunLaws.{NoEventsMakeFresh, SaidIsForged, WorldByOneMore};
 ghost use Rattle.pay_world.specs.StandLaws.{StandsAtFirst, StandsByOneMore, StandsByAction};
 ghost use Rattle.pay_world.specs.StandLaws.{GenuineStands, Agreement, StandingListsCompare};
-ghost use Rattle.pay_world.specs.StandLaws.{Integrity};
-ghost use Rattle.pay_world.specs.StandLaws.{ListIsAsked, NothingIsTakenBack, Convergence};
-ghost use Rattle.pay_world.specs.StandLaws.{ListsConverge, AsksAreDelivered, ListIsAllAsked};
-ghost use Rattle.pay_world.specs.NoticeLaws.{ListenerDelivers, ListedIsNoticed, DeliveredIsNoticed};
-ghost use Rattle.pay_world.specs.HeadlineLaws.{HeadlineHolds, BooksConverge};
-ghost use Rattle.pay_world.specs.HeadlineLaws.{NoListForks, ListWasAsked, ListStays};
-ghost use Rattle.pay_world.specs.HeadlineLaws.{ListsAreEqual, ListIsComplete};
-ghost use Rattle.pay_world.specs.HeadlineLaws.{SettledValuesMakeBeginning, NoSettledValueForks};
-ghost use Rattle.pay_world.specs.HeadlineLaws.{SettledValuesStay, SettledValuesWereAsked};
+ghost use Rattle.pay_world.specs.StandLaws.{Integrity, ListIsAsked, NothingIsTakenBack};
+ghost use Rattle.pay_world.specs.StandLaws.{Convergence, ListsConverge, AsksAreDelivered};
+ghost use Rattle.pay_world.specs.StandLaws.{ListIsAllAsked};
 
+use crate::liars::LiarFault;
 use pay_book::laws::{
     book_keeps_total, equal_lists_equal_books, nobody_owes_once_settled, settled_book_exists,
     settled_entries_compare, settled_entries_grow, settled_entries_were_asked, settled_is_largest,
@@ -32,9 +38,9 @@ use pay_echo::laws::{
     members_of_sets, nobody_leaves, nothing_known_at_first, quorums_can_form, quorums_share,
     sizes_of_sets, votes_came, why_known,
 };
-use pay_member::laws::{events_in_order, legal_histories};
+use pay_member::laws::{events_in_order, legal_histories, what_is_brought, what_opens};
 
-// The laws of one broadcast and of one member's channel that those between members stand on.
+// States the laws of one broadcast and of one member's channel that the laws between members need.
 fn laws_below()
     ensures { Below }
 {
@@ -58,7 +64,7 @@ fn laws_below()
     lists_grow();
 }
 
-// The laws of settling that those between members stand on.
+// States the laws of settling that the laws between members need.
 fn laws_of_books()
     ensures { OfBooks }
 {
@@ -72,16 +78,16 @@ fn laws_of_books()
     settled_entries_were_asked();
 }
 
-/// Each member's history is what it took of the actions, one after the other: it grows at its end,
-/// by one event or none an action.
+/// States that each member's history is what it accepted of the actions, one after the other. It
+/// grows at its end, by at most one event for each action.
 pub fn histories_by_actions()
     ensures first { NoHistoryAtFirst }
     ensures one_more { HistoryByOneMore }
     ensures grow { HistoriesGrow }
 {}
 
-/// A history that a member can have is, queries left out, the one by its asks and frames as actions
-/// at that member: each of them counts after those before it, whoever is faulty.
+/// States that a history that a member can have, without queries, is the one by its submitted
+/// values and frames as actions. Each of them counts after those before it, whoever is faulty.
 pub fn legal_history_by_actions()
     ensures { LegalHistoryByActions }
 {
@@ -89,8 +95,8 @@ pub fn legal_history_by_actions()
     legal_histories();
 }
 
-/// Actions are genuine up to the first that isn't. It comes to the same to say it of each place in
-/// their list.
+/// States that actions are genuine up to the first that isn't. This is equivalent to a statement
+/// about each place in their list.
 pub fn genuine_actions()
     ensures first { NoActionIsGenuine }
     ensures one_more { GenuineByOneMore }
@@ -98,8 +104,8 @@ pub fn genuine_actions()
     ensures by_place { GenuineByPlace }
 {}
 
-/// The tests say which members are correct, which action is genuine after those before it, and
-/// whether all are.
+/// States that the tests say which members are correct, which action is genuine after those before
+/// it, and whether all actions are.
 // promise: world's step
 pub fn forged_is_told()
     ensures correct { CorrectIsTold }
@@ -107,8 +113,8 @@ pub fn forged_is_told()
     ensures none { NoneForgedIsTold }
 {}
 
-/// Authenticity and the rule of READY hold between correct members at first, after one event
-/// more or one genuine action more, and so after any genuine actions.
+/// States that authenticity and the rule of READY hold between correct members at first. They hold
+/// after one more event, after one more genuine action, and so after any genuine actions.
 // promise: whole lists
 pub fn correct_members_stand()
     ensures first { StandsAtFirst }
@@ -119,8 +125,8 @@ pub fn correct_members_stand()
     laws_below();
 }
 
-/// Two correct members, each at any moment, deliver no two values under one number of one
-/// account. So of their lists of an account one is a prefix of the other.
+/// States that two correct members, each at any moment, deliver no two values under one number of
+/// one account. So one of their lists of an account is a prefix of the other.
 // promise: whole lists
 pub fn correct_members_agree()
     ensures values { Agreement }
@@ -129,8 +135,8 @@ pub fn correct_members_agree()
     laws_below();
 }
 
-/// What a correct member delivers of a correct owner, this owner was asked to broadcast, under
-/// that number.
+/// States that the owner submitted what a correct member delivers of a correct owner, under that
+/// number.
 // promise: whole lists
 pub fn nothing_is_invented()
     ensures value { Integrity }
@@ -139,15 +145,15 @@ pub fn nothing_is_invented()
     laws_below();
 }
 
-/// A member's lists at an earlier moment are prefixes of its later ones.
+/// States that a member's lists at an earlier moment are prefixes of its later lists.
 pub fn nothing_is_taken_back()
     ensures { NothingIsTakenBack }
 {
     laws_below();
 }
 
-/// Where each correct member took all that the other correct ones sent, all of them delivered the
-/// same, and all that correct owners were asked for.
+/// States what holds if each correct member accepted all that the other correct members sent. All
+/// of them delivered equal values, and all that correct owners submitted.
 // promise: convergence
 pub fn all_converge()
     ensures deliveries { Convergence }
@@ -158,9 +164,10 @@ pub fn all_converge()
     laws_below();
 }
 
-/// There, whoever took all that the correct members sent delivered what any of them delivered, also
-/// if it is faulty. So a member that has forgotten what it sent finds the evidence: what another
-/// lists of its account, its own list has too, though it wasn't asked for that.
+/// States how lost state is noticed, if each correct member accepted all of the others. A member
+/// that accepted all that they sent delivered what any of them delivered, even if it is faulty. So
+/// a member that lost state finds the evidence: its own list has a value that it didn't submit,
+/// because another lists that value for its account.
 // promise: forgetting
 pub fn forgetting_is_noticed()
     ensures listener { ListenerDelivers }
@@ -171,11 +178,11 @@ pub fn forgetting_is_noticed()
     lists_are_delivered();
 }
 
-/// The headline: take any actions of which none is a forged frame, in a group with few faulty
-/// members. Then correct members never settle different payments of one account; what one settled
-/// stays settled, and of a correct owner it is what the owner was asked for. Each book is the
-/// largest front of its member's lists, where nobody owes and no money was made or lost, and
-/// equal lists give equal books.
+/// States the safety theorem, for any actions without a forged frame, in a group with few faulty
+/// members. Correct members never settle different payments of one account. What a member settled
+/// stays settled, and of a correct owner it is what the owner submitted. Each ledger is at the
+/// largest front of its member's lists. No balance is below zero there, no money was made or lost,
+/// and equal lists give equal ledgers.
 // promise: agreement
 pub fn headline()
     ensures { HeadlineHolds }
@@ -184,7 +191,8 @@ pub fn headline()
     laws_of_books();
 }
 
-/// Where each correct member took all that the other correct ones sent, all their books are equal.
+/// States that all ledgers of correct members are equal if each correct member accepted all that
+/// the other correct ones sent.
 // promise: convergence
 pub fn books_converge()
     ensures { BooksConverge }
@@ -193,9 +201,9 @@ pub fn books_converge()
     laws_of_books();
 }
 
-/// The same of whole lists: no two correct members' lists of an account fork, nothing in them is
-/// invented or taken back, and where all was taken they are equal, and have all that correct
-/// owners were asked for.
+/// States the theorem for whole lists. No two correct members' lists of an account fork, and
+/// nothing in them is invented or taken back. If everything was accepted, the lists are equal and
+/// have all that correct owners submitted.
 // promise: whole lists (no_fork, asked, stays); convergence (equal, complete)
 pub fn lists_by_actions()
     ensures no_fork { NoListForks }
@@ -207,9 +215,9 @@ pub fn lists_by_actions()
     laws_below();
 }
 
-/// The same of values that are settled wholly, void ones too, whose entries are the first of the
-/// settled entries: of what two correct members settled of an account one is a prefix of the other,
-/// no value is taken back, and a correct owner was asked for them, in that order.
+/// States the theorem for wholly settled values, including void ones. Their entries are the first
+/// of the settled entries. Of two correct members' settled values of an account, one list is a
+/// prefix of the other, and no value is taken back. A correct owner submitted them, in that order.
 // promise: whole lists
 pub fn settled_values_by_actions()
     ensures entries { SettledValuesMakeBeginning }
@@ -220,3 +228,50 @@ pub fn settled_values_by_actions()
     laws_below();
     settled_values();
 }
+
+/// States that a list of faulty members has no fault exactly if it keeps the limits. Each fault
+/// comes exactly if its own cause holds and no earlier one.
+pub fn liar_causes()
+    ensures none { (l : LiarFields) → (liar_fault l ≡ None) ↔ AreLiars l }
+    ensures unknown { (l : LiarFields) → (liar_fault l ≡ Some LiarFault.Unknown)
+        ↔ ¬ (AreMembers l) }
+    ensures twice { (l : LiarFields) → (liar_fault l ≡ Some LiarFault.Twice)
+        ↔ (AreMembers l × ¬ (LiarsAreDistinct l)) }
+    ensures too_many { (l : LiarFields) → (liar_fault l ≡ Some LiarFault.TooMany)
+        ↔ (AreMembers l × LiarsAreDistinct l × (l.faults < length l.liars)) }
+{}
+
+/// States that a new world is that of a group without events. A world that answered one more event
+/// is that after the earlier events and this one.
+// promise: world's step
+pub fn world_by_events()
+    ensures first { NoEventsMakeFresh }
+    ensures one_more { WorldByOneMore }
+{
+    histories_by_actions();
+    genuine_actions();
+    forged_is_told();
+}
+
+/// States that a correct member's history, whatever happens to the group in bytes, is one that a
+/// member can have. Each such history is the one by the member's own submitted values and its
+/// frames' bytes.
+// promise: world's step
+pub fn legal_history_by_events()
+    ensures legal { HistoryIsLegal }
+    ensures own { LegalHistoryByEvents }
+{
+    events_in_order();
+    legal_histories();
+    what_opens();
+    what_is_brought();
+    legal_history_by_actions();
+}
+
+/// States that an event which a world answers isn't forged. An event that it reports as forged is,
+/// with the count of the events answered before.
+// promise: world's step
+pub fn what_is_forged()
+    ensures answered { AnsweredIsUnforged }
+    ensures said { SaidIsForged }
+{}

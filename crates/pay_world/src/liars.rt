@@ -1,15 +1,82 @@
+//! The faulty members of a group.
+
 ghost use Rattle.std.specs.Prelude.{◌≡◌, nat_lt, IfOk, IsOkUnless, MatchOption};
 ghost use Rattle.std.specs.List.{list_all};
-ghost use Rattle.pay_world.specs.Liars.{AreLiars, AreLiarsOf, has_twice};
-ghost use Rattle.pay_world.specs.Liars.{is_listed, liar_fault, liars_in};
+ghost use Rattle.pay_world.specs.Faults.{liar_fault_name, liar_fault_number};
+ghost use Rattle.pay_world.specs.Liars.{AreLiars, AreLiarsOf, has_twice, is_listed, liar_fault};
+ghost use Rattle.pay_world.specs.Liars.{liars_in};
 
-use crate::liar_fault::LiarFault;
 use pay_link::Genesis;
 use std::alloc::{AllocError, Global};
+use std::fmt;
 use std::marker::Model;
+use thiserror::Error;
 
-/// The members of a group that lie. Its type keeps that they are members, each named once, and no
-/// more than the genesis says may lie.
+/// The reason why a list isn't one of a group's faulty members, in the order of the tests. `Memory`
+/// is outside of this order.
+#[derive(Clone, Copy, Debug, PartialEq, Eq, Error)]
+pub enum LiarFault {
+    Memory,
+    /// The list has a number of no member.
+    Unknown,
+    /// The list has a number twice.
+    Twice,
+    /// The list has more members than may be faulty.
+    TooMany,
+}
+
+impl LiarFault {
+    // promise: order of refusals (number, name)
+    const fn entry(self) -> (u8, &'static str)
+        ensures number { result.0 ≡ liar_fault_number self }
+        ensures name { result.1.now ≡ liar_fault_name self }
+    {
+        match self {
+            LiarFault::Memory => (0, "Memory"),
+            LiarFault::Unknown => (1, "Unknown"),
+            LiarFault::Twice => (2, "Twice"),
+            LiarFault::TooMany => (3, "TooMany"),
+        }
+    }
+
+    /// Returns the number that the fault is printed with.
+    pub fn number(self) -> u8
+        ensures value { result ≡ liar_fault_number self }
+    {
+        self.entry().0
+    }
+
+    /// Returns the name that the fault is printed with.
+    pub fn name(self) -> &'static str
+        ensures value { result.now ≡ liar_fault_name self }
+    {
+        self.entry().1
+    }
+}
+
+impl fmt::Display for LiarFault {
+    ghost use Rattle.std.specs.Prelude.{Some};
+    ghost use Rattle.pay_world.specs.Faults.{liar_fault_words};
+
+    ghost output = { λ fault. Some (liar_fault_words fault) };
+
+    fn fmt<W: fmt::Write>(&self, f: &mut fmt::Formatter<W>) -> fmt::Result {
+        write!(f, "{} {}", self.number(), self.name())
+    }
+}
+
+impl From<AllocError> for LiarFault {
+    ghost use Rattle.pay_world.specs.declared.liars.LiarFault.TheVariants.{Memory};
+
+    ghost from_gives = { λ _ e. e ≡ Memory };
+
+    fn from(_error: AllocError) -> LiarFault {
+        LiarFault::Memory
+    }
+}
+
+/// The faulty members of a group. The type keeps that they are members, each named once, and no
+/// more than the genesis allows.
 #[derive(Debug, Drop)]
 pub struct Liars {
     members: u16,
@@ -29,7 +96,8 @@ impl Model for Liars {
 }
 
 impl Liars {
-    /// Memory is looked for last.
+    /// Creates a list of the faulty members `liars`, or returns its first fault. A lack of memory
+    /// is reported last.
     pub fn new(alloc: Global, genesis: &Genesis, liars: &[u16]) -> Result<Liars, LiarFault>
         ensures fault { MatchOption
             (liar_fault (liars_in genesis.now liars.now))
@@ -56,7 +124,7 @@ impl Liars {
         })
     }
 
-    /// Whether this member lies.
+    /// Returns whether `member` is faulty.
     pub fn is_liar(&self, member: u16) -> bool
         ensures value { result ≡ is_listed self.now.liars member }
         ensures limits { AreLiars self.now }
@@ -64,7 +132,7 @@ impl Liars {
         self.liars.contains(&member)
     }
 
-    /// An equal list.
+    /// Returns a copy of the list.
     pub fn copy(&self, alloc: Global) -> Result<Liars, AllocError>
         ensures value { IfOk result (λ copy. copy ≡ self.now) }
         ensures limits { AreLiars self.now }
@@ -84,8 +152,8 @@ fn are_members(members: u16, liars: &[u16]) -> bool
     liars.iter().all(|liar| *liar < members)
 }
 
-// Whether one stands there twice. Of members, of whom there are at most 128, one does among the
-// first 129, so the loop ends there.
+// Returns whether a number stands in the list twice. There are at most 128 members, so one of the
+// first 129 numbers of members stands twice, and the loop ends there.
 fn has_twice(liars: &[u16]) -> bool
     ensures { result ≡ has_twice liars.now }
 {

@@ -1,11 +1,13 @@
-ghost use Rattle.std.specs.Prelude.{◌≡◌, ℕ, IfOk};
-ghost use Rattle.pay_world.specs.Liars.{AreLiarsOf, setting_of};
-ghost use Rattle.pay_world.specs.Headline.{Headline};
-ghost use Rattle.pay_world.specs.World.{AreKeysOf};
-ghost use Rattle.pay_world.specs.Run.{IsFirstForged, IsWorldAfter, actions_by};
+//! A list of events, run in a world of test keys or of any others.
 
-use crate::event::WorldEvent;
-use crate::fault::WorldFault;
+ghost use Rattle.std.specs.Prelude.{◌≡◌, IfOk, ℕ};
+ghost use Rattle.pay_world.specs.GroupKeys.{group_test_keys};
+ghost use Rattle.pay_world.specs.Headline.{Headline};
+ghost use Rattle.pay_world.specs.Liars.{AreLiarsOf, setting_of};
+ghost use Rattle.pay_world.specs.Run.{IsFirstForged, IsWorldAfter, actions_by};
+ghost use Rattle.pay_world.specs.World.{AreKeysOf};
+
+use crate::event::{WorldEvent, WorldFault};
 use crate::laws::{forged_is_told, genuine_actions, headline, histories_by_actions};
 use crate::liars::Liars;
 use crate::world::World;
@@ -13,13 +15,27 @@ use pay_book::Settle;
 use pay_echo::Instance;
 use pay_echo::laws::sizes_of_sets;
 use pay_hmac::Tagger;
-use pay_link::{Genesis, Keys};
-use std::alloc::Global;
+use pay_link::{Genesis, Keys, test_keys};
+use std::alloc::{AllocError, Global};
 
-/// The world of a group after a list of events. There are keys for each member, at its place.
+/// Returns the test keys of all members, each member's at its place.
+pub fn group_test_keys(alloc: Global, genesis: &Genesis) -> Result<Vec<Keys>, AllocError>
+    ensures value { IfOk result (λ keys. keys.items ≡ group_test_keys genesis.now.members) }
+    ensures genesis { IfOk result (λ keys. AreKeysOf genesis.now keys.items) }
+{
+    let members = genesis.members();
+    let mut keys = Vec::with_capacity(alloc, usize::from(members))?;
+    for member in 0..members {
+        keys.push(test_keys(alloc, genesis, member)?)?;
+    }
+    Ok(keys)
+}
+
+/// Returns the world of a group after a list of `events`. There are keys for each member, at its
+/// place.
 ///
-/// Refuses a list with a forged frame (`Forged`), and names the first. Memory aside it refuses no
-/// other. Of the events of a world that it returns the headline holds.
+/// Refuses a list with a forged frame (`Forged`), and names the first. Except for lack of memory it
+/// refuses no other list. The safety theorem holds for the events of a world that it returns.
 // promise: from bytes
 pub fn run_world<I: Instance + Drop, B: Settle + Drop, T: Tagger>(
     alloc: Global,

@@ -1,30 +1,28 @@
-ghost use Rattle.std.specs.Prelude.{◌≡◌, ◌↔◌, ℕ, slice_get, Some, false, IfOk};
-ghost use Rattle.std.specs.Prelude.{IfNone, IfSome, IsOkUnless, IsTrue, MatchOption, OnOk, OnErr};
+ghost use Rattle.std.specs.Prelude.{◌≡◌, ℕ, slice_get, Some, false, IfOk, IfNone, IfSome};
+ghost use Rattle.std.specs.Prelude.{IsOkUnless, MatchOption, OnOk, OnErr};
 ghost use Rattle.std.specs.Option.{option_copied, option_map};
+ghost use Rattle.pay_channel.specs.History.{out};
+ghost use Rattle.pay_channel.specs.Prefix.{IsPrefix};
 ghost use Rattle.pay_frame.specs.Frame.{FrameFields};
 ghost use Rattle.pay_frame.specs.Lent.{fields_of};
 ghost use Rattle.pay_frame.specs.OneFrame.{IsOneFrame};
-ghost use Rattle.pay_channel.specs.History.{out};
-ghost use Rattle.pay_channel.specs.Prefix.{IsPrefix};
 ghost use Rattle.pay_link.specs.Checked.{IsFor, bytes_of};
 ghost use Rattle.pay_link.specs.Fronts.{turn};
-ghost use Rattle.pay_link.specs.Keys.{IsKeysOf, IsPeer, key_for};
-ghost use Rattle.pay_member.specs.Group.{group_in};
+ghost use Rattle.pay_link.specs.Keys.{IsKeysOf};
 ghost use Rattle.pay_member.specs.Events.{events};
+ghost use Rattle.pay_member.specs.Group.{group_in};
 ghost use Rattle.pay_member.specs.Member.{MemberFields};
-ghost use Rattle.pay_world.specs.Genuine.{is_same_body};
-ghost use Rattle.pay_world.specs.Liars.{AreLiarsOf};
-ghost use Rattle.pay_world.specs.World.{AreKeysOf, IsWorld, fresh_place};
-ghost use Rattle.pay_world.specs.World.{fresh_world, history_in, member_in};
 ghost use Rattle.pay_world.specs.Answer.{AnswersEvent, IsGrownBy, IsReplyFrom, IsTakenBy, forgery};
 ghost use Rattle.pay_world.specs.Answer.{is_forged_at, is_unsent, member_after, one_more, receiver};
+ghost use Rattle.pay_world.specs.Genuine.{is_same_body};
+ghost use Rattle.pay_world.specs.Liars.{AreLiarsOf};
 ghost use Rattle.pay_world.specs.Passing.{MayPass, frame_of, passing};
+ghost use Rattle.pay_world.specs.World.{AreKeysOf, IsWorld, fresh_place, fresh_world, history_in};
+ghost use Rattle.pay_world.specs.World.{member_in};
 
-use crate::event::WorldEvent;
-use crate::fault::WorldFault;
+use crate::event::{WorldEvent, WorldFault, WorldReply};
 use crate::laws::{correct_members_stand, forged_is_told};
 use crate::liars::Liars;
-use crate::reply::WorldReply;
 use pay_book::Settle;
 use pay_channel::laws::what_is_sent;
 use pay_echo::Instance;
@@ -39,14 +37,13 @@ use pay_member::{AskFault, Member, Outcome};
 use std::alloc::{AllocError, Global};
 use std::marker::Model;
 
-// `run_world` and `World::apply` are passed a tagger: a world keeps none.
-// term: world: a group whose members are all in one process
-/// The members of a group in one process: the correct ones, each at its place, and nothing in the
-/// liars' places. What liars send is brought to the others as bytes.
+// `run_world` and `World::apply` get a tagger as an argument: a world keeps none.
+/// The members of a group in one process: the correct ones, each at its place, and nothing at the
+/// places of faulty members. What faulty members send reaches the others as bytes.
 ///
-/// Its type keeps that what a correct member took from another is a prefix of all that the other
-/// sent, and that for each READY of a correct member there is a quorum of ECHOs at some correct
-/// one.
+/// The type keeps two facts. What a correct member accepted from another is a prefix of all that
+/// the other sent. For each READY of a correct member there is a quorum of ECHOs at some correct
+/// member.
 #[derive(Drop)]
 pub struct World<I: Instance + Drop, B: Settle + Drop> {
     genesis: Genesis,
@@ -76,7 +73,8 @@ impl<I: Instance + Drop, B: Settle + Drop> Model for World<I, B> {
 }
 
 impl<I: Instance + Drop, B: Settle + Drop> World<I, B> {
-    /// A world to which nothing happened. There are keys for each member, at its place.
+    /// Creates a world with the faulty members `liars`, without events. There are keys for each
+    /// member, at its place.
     // promise: world's step
     pub fn new(
         alloc: Global,
@@ -102,11 +100,11 @@ impl<I: Instance + Drop, B: Settle + Drop> World<I, B> {
         })
     }
 
-    /// Lets an event happen, and returns what its member answered.
+    /// Applies `event`, and returns what its member answered.
     ///
     /// Refuses a frame in the name of a correct member that didn't send it (`Forged`), with the
-    /// count of the events answered before, which stays at the greatest number that it can hold. A
-    /// refused event changes nothing. Memory can be refused only to an event that its member takes.
+    /// count of the events answered before. The count saturates. A refused event changes nothing.
+    /// Only an event that its member accepts can fail for lack of memory.
     // promise: order of refusals; nothing changes (err); world's step
     pub fn apply<T: Tagger>(
         &mut self,
@@ -129,7 +127,7 @@ impl<I: Instance + Drop, B: Settle + Drop> World<I, B> {
         Ok(reply)
     }
 
-    // Lets an event happen, and doesn't count it.
+    // Applies `event` without counting it.
     fn happen<T: Tagger>(
         &mut self,
         alloc: Global,
@@ -153,7 +151,7 @@ impl<I: Instance + Drop, B: Settle + Drop> World<I, B> {
         }
     }
 
-    // Asks a member to broadcast a value.
+    // Submits a value to a member for broadcast.
     fn ask(&mut self, alloc: Global, member: u16, value: Bytes) -> Result<WorldReply, WorldFault>
         ensures refused { MatchOption (forgery self.old (WorldEvent.Ask member value))
             (IsOkUnless result WorldFault.Memory)
@@ -175,7 +173,7 @@ impl<I: Instance + Drop, B: Settle + Drop> World<I, B> {
         ask_place(&mut self.members[place], alloc, value)
     }
 
-    // Brings bytes to a member, unless they are a forged frame.
+    // Delivers bytes to a member, unless they are a forged frame.
     fn bring<T: Tagger>(
         &mut self,
         alloc: Global,
@@ -207,8 +205,9 @@ impl<I: Instance + Drop, B: Settle + Drop> World<I, B> {
         bring_place(&mut self.members[place], alloc, tagger, bytes)
     }
 
-    // Whether bytes are a frame that opens at a correct member, in the name of a correct member
-    // that didn't send it under this number. What was sent is tested first, which takes no tag.
+    // Returns whether `bytes` are a frame that a correct member authenticates, in the name of a
+    // correct member that didn't send it under this number. The sent list is tested first, without
+    // computing a tag.
     fn is_forged<T: Tagger>(&self, tagger: &T, member: u16, bytes: &[u8]) -> bool
         ensures { result ≡ is_forged_at self.now (WorldEvent.Bring member bytes.now) }
     {
@@ -219,8 +218,8 @@ impl<I: Instance + Drop, B: Settle + Drop> World<I, B> {
         self.are_unsent(bytes) && receiver.opens(tagger, bytes).is_some()
     }
 
-    // Whether bytes, where they are a frame, name a correct member that didn't send it under this
-    // number, whatever its tag.
+    // Returns whether `bytes`, if they are a frame, name a correct member that didn't send it under
+    // this number, whatever the tag.
     fn are_unsent(&self, bytes: &[u8]) -> bool
         ensures { (f : FrameFields) → IsOneFrame bytes.now f → result ≡ is_unsent self.now f }
     {
@@ -231,7 +230,8 @@ impl<I: Instance + Drop, B: Settle + Drop> World<I, B> {
         }
     }
 
-    // The same of a frame.
+    // Returns whether `frame` names a correct member that didn't send it under this number,
+    // whatever the tag.
     fn is_unsent(&self, frame: &FrameRef<'_>) -> bool
         ensures { result ≡ is_unsent self.now (fields_of frame.now) }
     {
@@ -241,23 +241,12 @@ impl<I: Instance + Drop, B: Settle + Drop> World<I, B> {
         }
     }
 
-    /// Whether `pass` may be asked for this: the one member sent something at that place of its
-    /// list, the other is there to take it, and they have one key for each other.
-    // promise: passing on
-    pub fn may_pass(&self, from: u16, to: u16, number: u64) -> bool
-        ensures { IsTrue result ↔ MayPass self.now from to number }
-    {
-        let (Some(giver), Some(taker)) = (self.member(from), self.member(to)) else {
-            return false;
-        };
-        giver.sent(number).is_some() && share_key(giver.keys(), taker.keys())
-    }
-
-    /// Passes on what a correct member sent another that has the same key for it: the frame at a
-    /// place of its list, sealed for the other. What it does is what bringing the frame's bytes to
-    /// the other would, but they aren't encoded, and its tag is computed once.
+    /// Passes on what a correct member sent to another that has an equal key for it: the frame at
+    /// place `number` of its list, encoded for the member `to`. The effect is that of delivering
+    /// the frame's bytes. They aren't encoded, and the tag is computed once.
     ///
-    /// A frame that was sent is never refused, and memory only where the other takes it.
+    /// A frame that was sent is never refused, and memory can run out only if the other member
+    /// accepts it.
     // promise: passing on
     pub fn pass(
         &mut self,
@@ -285,7 +274,7 @@ impl<I: Instance + Drop, B: Settle + Drop> World<I, B> {
         Ok(reply)
     }
 
-    // Passes a frame on, and doesn't count it.
+    // Passes a frame on without counting it.
     fn hand_on(
         &mut self,
         alloc: Global,
@@ -314,8 +303,8 @@ impl<I: Instance + Drop, B: Settle + Drop> World<I, B> {
         pass_place(&mut self.members[usize::from(to)], alloc, checked)
     }
 
-    // What the other answers, if the frame isn't the next that it takes from its sender: a repeat
-    // or a gap, whatever the tag, so nothing is sealed.
+    // Returns what the member `to` answers if the frame isn't the next from its sender. It is a
+    // repeat or a gap whatever its tag, so nothing is encoded.
     fn out_of_turn(&self, from: u16, to: u16, number: u64) -> Option<WorldReply>
         requires { MayPass self.now from to number }
         ensures unforged { is_forged_at self.now (passing self.now from to number) ≡ false }
@@ -331,7 +320,7 @@ impl<I: Instance + Drop, B: Settle + Drop> World<I, B> {
         tag_length();
         let giver = self.member(from).unwrap();
         let body = giver.sent(number).unwrap();
-        // a body's limits, on which the proof stands: the call does nothing
+        // for the proof, a body's limits: the call does nothing
         body.value();
         let taker = self.member(to).unwrap();
         match turn(taker.next(from), number) {
@@ -340,7 +329,7 @@ impl<I: Instance + Drop, B: Settle + Drop> World<I, B> {
         }
     }
 
-    // The frame at a place of all that a correct member sent, sealed for another.
+    // Returns the frame at a place of all that a correct member sent, encoded for another member.
     fn seal_sent(
         &self,
         alloc: Global,
@@ -362,7 +351,7 @@ impl<I: Instance + Drop, B: Settle + Drop> World<I, B> {
         Ok(checked)
     }
 
-    // How many members the group has, those that lie among them.
+    // Returns how many members the group has, including the faulty ones.
     pub(crate) fn members(&self) -> u16
         ensures value { result ≡ self.now.genesis.members }
         ensures limits { IsWorld self.now }
@@ -370,7 +359,7 @@ impl<I: Instance + Drop, B: Settle + Drop> World<I, B> {
         self.genesis.members()
     }
 
-    /// The member of a number, unless it is no member or lies.
+    /// Returns the member with the number `member`, unless it is no member or faulty.
     // promise: world's step
     pub fn member(&self, member: u16) -> Option<&Member<I, B>>
         ensures value { option_copied result ≡ member_in self.now member }
@@ -383,17 +372,7 @@ impl<I: Instance + Drop, B: Settle + Drop> World<I, B> {
     }
 }
 
-// Whether two members have one key for each other.
-fn share_key(one: &Keys, other: &Keys) -> bool
-    ensures { IsTrue result ↔ (IsPeer one.now other.now.own × IsPeer other.now one.now.own
-        × (key_for one.now other.now.own ≡ key_for other.now one.now.own)) }
-{
-    one.is_peer(other.own())
-        && other.is_peer(one.own())
-        && one.key(other.own()) == other.key(one.own())
-}
-
-// Asks the member at a place, if there is one, to broadcast a value.
+// Submits a value to the member at a place, if there is one.
 fn ask_place<I: Instance + Drop, B: Settle + Drop>(
     place: &mut Option<Member<I, B>>,
     alloc: Global,
@@ -416,7 +395,7 @@ fn ask_place<I: Instance + Drop, B: Settle + Drop>(
     }
 }
 
-// Brings bytes to the member at a place, if there is one.
+// Delivers bytes to the member at a place, if there is one.
 fn bring_place<I: Instance + Drop, B: Settle + Drop, T: Tagger>(
     place: &mut Option<Member<I, B>>,
     alloc: Global,
@@ -438,7 +417,7 @@ fn bring_place<I: Instance + Drop, B: Settle + Drop, T: Tagger>(
     Ok(WorldReply::Brought(outcome))
 }
 
-// Brings a frame that is for it to the member at a place, if there is one.
+// Delivers a frame to the member at a place, if there is one. The frame is for that member.
 fn pass_place<I: Instance + Drop, B: Settle + Drop>(
     place: &mut Option<Member<I, B>>,
     alloc: Global,
@@ -459,7 +438,7 @@ fn pass_place<I: Instance + Drop, B: Settle + Drop>(
     Ok(WorldReply::Brought(outcome))
 }
 
-// Whether the member sent this body under this number.
+// Returns whether the member sent this body under this number.
 fn is_sent<I: Instance + Drop, B: Settle + Drop>(
     sender: &Member<I, B>,
     frame: &FrameRef<'_>,
@@ -484,7 +463,7 @@ fn is_body(body: &Body, frame: &FrameRef<'_>) -> bool
         && body.value() == frame.value()
 }
 
-// What stands at the place of the member with these keys.
+// Returns what stands at the place of the member with `keys` in a new world.
 fn fresh_place<I: Instance + Drop, B: Settle + Drop>(
     alloc: Global,
     genesis: &Genesis,

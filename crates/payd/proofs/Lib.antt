@@ -1,6 +1,5 @@
 mod Exports
 mod Reading
-mod Outcomes
 mod Said
-mod Appending
+mod Tables
 mod Members

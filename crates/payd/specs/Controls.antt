@@ -1,4 +1,4 @@
--- Words that would not stay in their line where they are printed or sent.
+-- Words that would not stay in their line if they are printed or sent.
 use Rattle.std.specs.Prelude.{ℕ, Bool, ◌||◌, ◌==◌, nat_lt, List}
 use Rattle.std.specs.List.{list_any}
 

@@ -1,4 +1,4 @@
--- How often a node dials its peers, as a word says it.
+-- How often a node connects to its peers, as a word gives it.
 use Rattle.std.specs.Prelude.{◌≡◌, ℕ, ◌==◌, List, Option, Some, None, codes, option_and_then}
 use Rattle.std.specs.Prelude.{if◌then◌else◌}
 use Rattle.std.specs.Str.{bytes_eq}
@@ -8,11 +8,11 @@ use Rattle.pay_text.specs.Numbers.{number_of}
 use Rattle.payd.specs.declared.stop.Stop.{Stop}
 use Rattle.payd.specs.declared.stop.Stop.TheVariants as stop
 
--- so many, and at least one
+-- this count, if it is at least one
 abbrev pub dials_of_count : ℕ → Option Dials
 dials_of_count count = if count == 0 then None else Some (Counted count)
 
--- what a word asks for: dials without end, or a count of them; nothing where it is neither
+-- what a word gives: dials without end, or a count of them; nothing if it is neither
 abbrev pub dials_by : List ℕ → Option Dials
 dials_by word =
     if bytes_eq word (codes "always") then Some Always
@@ -23,7 +23,7 @@ abbrev pub dials_in : Option (List ℕ) → Option Dials
 dials_in None = Some Usual
 dials_in (Some word) = dials_by word
 
--- the program stops because a word asks for nothing
+-- the program stops because a word gives no dials
 abbrev pub IsDialsStop : Option (List ℕ) → Stop → Type 0
 IsDialsStop word (stop.Dials named) = (word ≡ Some named.now) × (dials_by named.now ≡ None)
 IsDialsStop word _ = ⊥

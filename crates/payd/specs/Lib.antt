@@ -6,13 +6,9 @@ pub mod Dials
 pub mod Dates
 pub mod Ahead
 pub mod Texts
-pub mod Jobs
-pub mod Outcomes
-pub mod Sending
 pub mod Saying
 pub mod Sockets
 pub mod Starts
-pub mod Patience
 pub mod Controls
 pub mod Metrics
 pub mod Times

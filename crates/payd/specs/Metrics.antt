@@ -1,56 +1,73 @@
--- A node's figures in Prometheus' text format.
+-- A node's metrics in Prometheus' text format
+-- (https://prometheus.io/docs/instrumenting/exposition_formats).
 use Rattle.std.specs.Prelude.{ℕ, ◌+◌, ◌-◌, ◌++◌, ◌∷◌, [], Bool, List, Option, Some, None, codes}
-use Rattle.std.specs.Prelude.{count_by, decimal}
+use Rattle.std.specs.Prelude.{count_by, decimal, if◌then◌else◌, nat_eq}
 use Rattle.std.specs.Int.{from_bool}
-use Rattle.std.specs.List.{flat_map}
-use Rattle.std.specs.Option.{option_map_or}
+use Rattle.std.specs.List.{ends_with, flat_map}
 use Rattle.pay_frame.specs.declared.limits.TheConstants.{SEQS}
-use Rattle.pay_net.specs.declared.figures.MemberFigures.{MemberFigures}
-use Rattle.pay_net.specs.declared.figures.NodeFigures.{NodeFigures}
-use Rattle.pay_net.specs.declared.figures.PeerFigures.{PeerFigures}
+use Rattle.pay_net.specs.declared.watching.NodeFigures.{NodeFigures}
+use Rattle.pay_net.specs.declared.watching.PeerFigures.{PeerFigures}
 use Rattle.pay_net.specs.Figures.{has_lied_by, was_lost_by, was_met_by}
+use Rattle.payd.specs.declared.metrics.Figure.{Figure}
+use Rattle.payd.specs.declared.metrics.Figure.TheVariants.{Balance, Build, DurableEntries}
+use Rattle.payd.specs.declared.metrics.Figure.TheVariants.{HistoryEntries, LogBytes, Peer}
+use Rattle.payd.specs.declared.metrics.Figure.TheVariants.{PeersLost, PeersMet, ReadsLeft}
+use Rattle.payd.specs.declared.metrics.Figure.TheVariants.{ResidentBytes, SentFrames}
+use Rattle.payd.specs.declared.metrics.Figure.TheVariants.{SettledEntries, StartTime, ValuesLeft}
+use Rattle.payd.specs.declared.metrics.Figure.TheVariants.{ValuesUsed, WaitingEntries, WaitingShort}
+use Rattle.payd.specs.declared.metrics.Label.{Label}
+use Rattle.payd.specs.declared.metrics.Label.TheVariants as label
+use Rattle.payd.specs.declared.metrics.OfPeer.{OfPeer}
+use Rattle.payd.specs.declared.metrics.OfPeer.TheVariants as of_peer
 use Rattle.payd.specs.declared.metrics.OwnFigures.{OwnFigures}
-use Rattle.payd.specs.declared.metrics.PeerMetric.{PeerMetric}
-use Rattle.payd.specs.declared.metrics.PeerMetric.TheVariants.{AskedFrames, Lied, Met}
-use Rattle.payd.specs.declared.metrics.PeerMetric.TheVariants.{SilentSeconds, Unopened}
+use Rattle.payd.specs.declared.metrics.Sample.{Sample}
 
--- ---- lines
+-- a metric: what it shows, its name, and what that means
+abbrev pub Row : Type 0
+Row = Figure × List ℕ × List ℕ
 
-abbrev pub comment_line : List ℕ → List ℕ → List ℕ → List ℕ
-comment_line mark name said = mark ++ name ++ codes " " ++ said ++ 10 ∷ []
+-- all metrics, in their order
+abbrev pub metrics : List Row
+metrics =
+    (PeersMet, codes "peers_met", codes "Peers that are met.")
+    ∷ (
+      PeersLost,
+      codes "peers_lost",
+      codes "Peers that were met and are not now, or were given up.",
+    )
+    ∷ (Peer of_peer.Met, codes "peer_met", codes "Whether a peer is met.")
+    ∷ (
+      Peer of_peer.Unopened,
+      codes "peer_unopened",
+      codes "Whether a frame in its name did not open.",
+    )
+    ∷ (Peer of_peer.Lied, codes "peer_lied", codes "Whether it lied: nothing more is read from it.")
+    ∷ (
+      Peer of_peer.SilentSeconds,
+      codes "peer_silent_seconds",
+      codes "Seconds since its last frame.",
+    )
+    ∷ (Peer of_peer.AskedFrames, codes "peer_asked_frames_total", codes "Frames that it asked for.")
+    ∷ (
+      SettledEntries,
+      codes "settled_entries_total",
+      codes "Settled entries of an account: its front.",
+    )
+    ∷ (Balance, codes "balance", codes "Balance of the node's own account.")
+    ∷ (SentFrames, codes "sent_frames_total", codes "Frames that there are for each peer.")
+    ∷ (HistoryEntries, codes "history_entries_total", codes "Entries of the member's history.")
+    ∷ (ValuesUsed, codes "values_used", codes "Values of the own account that are used.")
+    ∷ (ValuesLeft, codes "values_left", codes "Values of the own account that are left.")
+    ∷ (WaitingEntries, codes "waiting_entries", codes "Own entries that wait, 1000 at most.")
+    ∷ (WaitingShort, codes "waiting_short", codes "What the balance lacks of the first that waits.")
+    ∷ (DurableEntries, codes "history_durable_entries_total", codes "History entries on the disk.")
+    ∷ (LogBytes, codes "log_bytes", codes "Size of the log in the node's folder.")
+    ∷ (ResidentBytes, codes "resident_memory_bytes", codes "Resident memory of the process.")
+    ∷ (ReadsLeft, codes "input_reads_left", codes "Reads of the desk's input that are left.")
+    ∷ (StartTime, codes "start_time_seconds", codes "When the node started, in seconds since 1970.")
+    ∷ (Build, codes "build_info", codes "The version of the program that runs.") ∷ []
 
--- what a figure of this name is: of which kind, and what it says
-abbrev pub about_words : List ℕ → List ℕ → List ℕ → List ℕ
-about_words name kind help =
-    comment_line (codes "# HELP ") name help ++ comment_line (codes "# TYPE ") name kind
-
-abbrev pub sample_value : ℕ → List ℕ
-sample_value value = codes " " ++ decimal value ++ 10 ∷ []
-
--- and its one value
-abbrev pub metric_words : List ℕ → List ℕ → List ℕ → ℕ → List ℕ
-metric_words name kind help value = about_words name kind help ++ name ++ sample_value value
-
--- if it is known
-abbrev pub known_words : List ℕ → List ℕ → List ℕ → Option ℕ → List ℕ
-known_words name kind help None = []
-known_words name kind help (Some value) = metric_words name kind help value
-
--- the value under a label that is a number, as `name{account="1"} 7`
-abbrev pub sample_words : List ℕ → List ℕ → ℕ → ℕ → List ℕ
-sample_words name label number value =
-    name ++ label ++ decimal number ++ codes "\"}" ++ sample_value value
-
--- the values of the accounts from a number on
-abbrev pub samples_words : List ℕ → ℕ → List ℕ → List ℕ
-samples_words name account [] = []
-samples_words name account (value ∷ values) =
-    sample_words name (codes "{account=\"") account value ++ samples_words name (account + 1) values
-
-abbrev pub accounts_words : List ℕ → List ℕ → List ℕ → List ℕ → List ℕ
-accounts_words name kind help values = about_words name kind help ++ samples_words name 0 values
-
--- ---- what is shown
+-- ---- values
 
 abbrev pub is_met_peer : PeerFigures → Bool
 is_met_peer peer = was_met_by peer.last
@@ -58,129 +75,83 @@ is_met_peer peer = was_met_by peer.last
 abbrev pub is_lost_peer : PeerFigures → Bool
 is_lost_peer peer = was_lost_by peer.last
 
--- how many peers are met, and how many are lost
-abbrev pub sums_words : List PeerFigures → List ℕ
-sums_words peers =
-    metric_words (codes "payd_peers_met") (codes "gauge") (codes "Peers that are met.")
-    (count_by is_met_peer peers)
-    ++ metric_words (codes "payd_peers_lost") (codes "gauge")
-    (codes "Peers that were met and are not now, or were given up.") (count_by is_lost_peer peers)
+-- a peer's value, if it is known
+abbrev pub value_of_peer : OfPeer → PeerFigures → Option ℕ
+value_of_peer of_peer.Met peer = Some (from_bool (was_met_by peer.last))
+value_of_peer of_peer.Unopened peer = Some (from_bool peer.mistrusted)
+value_of_peer of_peer.Lied peer = Some (from_bool (has_lied_by peer.last))
+value_of_peer of_peer.SilentSeconds peer = peer.silent_seconds
+value_of_peer of_peer.AskedFrames peer = Some peer.asked
 
--- a figure of a peer, if it is known
-abbrev pub value_of_peer : PeerMetric → PeerFigures → Option ℕ
-value_of_peer Met peer = Some (from_bool (was_met_by peer.last))
-value_of_peer Unopened peer = Some (from_bool peer.mistrusted)
-value_of_peer Lied peer = Some (from_bool (has_lied_by peer.last))
-value_of_peer SilentSeconds peer = peer.silent_seconds
-value_of_peer AskedFrames peer = Some peer.asked
+-- the value under this label, if it is known
+abbrev pub sample_if : Label → Option ℕ → List Sample
+sample_if label None = []
+sample_if label (Some value) = record { label = label; value = value } ∷ []
 
--- as `name{peer="1"} 7`
-abbrev pub sample_of_peer : List ℕ → PeerMetric → PeerFigures → List ℕ
-sample_of_peer name of peer =
-    option_map_or (sample_words name (codes "{peer=\"") peer.peer) (value_of_peer of peer) []
+abbrev pub sample_of_peer : OfPeer → PeerFigures → List Sample
+sample_of_peer figure peer = sample_if (label.Peer peer.peer) (value_of_peer figure peer)
 
--- what a figure is, and its value for each peer of which it is known
-abbrev pub each_words : List ℕ → List ℕ → List ℕ → PeerMetric → List PeerFigures → List ℕ
-each_words name kind help of peers =
-    about_words name kind help ++ flat_map (sample_of_peer name of) peers
+-- the fronts of the accounts from a number on
+abbrev pub fronts_from : ℕ → List ℕ → List Sample
+fronts_from account [] = []
+fronts_from account (front ∷ fronts) =
+    record { label = label.Account account; value = front } ∷ fronts_from (account + 1) fronts
 
--- whether frames in each peer's name open, and whether it lied
-abbrev pub wrongs_words : List PeerFigures → List ℕ
-wrongs_words peers =
-    each_words (codes "payd_peer_unopened") (codes "gauge")
-    (codes "Whether a frame in a peer's name did not open.") Unopened peers
-    ++ each_words (codes "payd_peer_lied") (codes "gauge")
-    (codes "Whether a peer told a lie, so that nothing more is read from it.") Lied peers
+abbrev pub lone : Option ℕ → List Sample
+lone value = sample_if label.Nothing value
 
--- whether each peer is met, and what is wrong with it
-abbrev pub standing_words : List PeerFigures → List ℕ
-standing_words peers =
-    each_words (codes "payd_peer_met") (codes "gauge") (codes "Whether a peer is met.") Met peers
-    ++ wrongs_words peers
+-- the values of a metric that are known
+abbrev pub samples_of : NodeFigures → OwnFigures → Figure → List Sample
+samples_of f own (Peer figure) = flat_map (sample_of_peer figure) f.peers.items
+samples_of f own SettledEntries = fronts_from 0 f.member.fronts.items
+samples_of f own Build = sample_if (label.Version own.version) (Some 1)
+samples_of f own PeersMet = lone (Some (count_by is_met_peer f.peers.items))
+samples_of f own PeersLost = lone (Some (count_by is_lost_peer f.peers.items))
+samples_of f own Balance = lone (Some f.member.balance)
+samples_of f own SentFrames = lone (Some f.member.sent)
+samples_of f own HistoryEntries = lone (Some f.member.entries)
+samples_of f own ValuesUsed = lone (Some f.member.used)
+samples_of f own ValuesLeft = lone (Some (SEQS - f.member.used))
+samples_of f own WaitingEntries = lone (Some f.member.waiting)
+samples_of f own WaitingShort = lone (Some f.member.short)
+samples_of f own DurableEntries = lone f.durable
+samples_of f own LogBytes = lone own.log_bytes
+samples_of f own ResidentBytes = lone own.resident_bytes
+samples_of f own ReadsLeft = lone (Some own.reads_left)
+samples_of f own StartTime = lone own.started_seconds
 
--- for how long nothing came of each peer, and what it asked for
-abbrev pub traffic_words : List PeerFigures → List ℕ
-traffic_words peers =
-    each_words (codes "payd_peer_silent_seconds") (codes "gauge")
-    (codes "Seconds since a frame of a peer came.") SilentSeconds peers
-    ++ each_words (codes "payd_peer_asked_frames_total") (codes "counter")
-    (codes "Frames that a peer asked for.") AskedFrames peers
+-- ---- lines
 
--- what is known of each peer
-abbrev pub seen_words : List PeerFigures → List ℕ
-seen_words peers = standing_words peers ++ traffic_words peers
+abbrev pub comment_line : List ℕ → List ℕ → List ℕ → List ℕ
+comment_line mark name said = mark ++ name ++ codes " " ++ said ++ 10 ∷ []
 
-abbrev pub peers_words : List PeerFigures → List ℕ
-peers_words peers = sums_words peers ++ seen_words peers
+-- a metric with a name that ends in this way only grows
+abbrev pub type_of : List ℕ → List ℕ
+type_of name =
+    if ends_with nat_eq name (codes "_total") then codes "counter" else codes "gauge"
 
-abbrev pub fronts_words : List ℕ → List ℕ
-fronts_words fronts =
-    accounts_words (codes "payd_settled_entries_total") (codes "counter")
-    (codes "Settled entries of an account, which is its front.") fronts
+abbrev pub label_words : Label → List ℕ
+label_words label.Nothing = []
+label_words (label.Peer number) = codes "{peer=\"" ++ decimal number ++ codes "\"}"
+label_words (label.Account number) = codes "{account=\"" ++ decimal number ++ codes "\"}"
+label_words (label.Version version) = codes "{version=\"" ++ version.now ++ codes "\"}"
 
--- how many frames there are, and how many entries
-abbrev pub counts_words : MemberFigures → List ℕ
-counts_words m =
-    metric_words (codes "payd_sent_frames_total") (codes "counter")
-    (codes "Frames that there are for each peer.") m.sent
-    ++ metric_words (codes "payd_history_entries_total") (codes "counter")
-    (codes "Entries of the member's history.") m.entries
+-- a value, such as `payd_peer_met{peer="1"} 1`
+abbrev pub sample_line : List ℕ → Sample → List ℕ
+sample_line name s =
+    codes "payd_" ++ name ++ label_words s.label ++ codes " " ++ decimal s.value ++ 10 ∷ []
 
-abbrev pub holding_words : MemberFigures → List ℕ
-holding_words m =
-    metric_words (codes "payd_balance") (codes "gauge")
-    (codes "Balance of the node's own account.") m.balance
-    ++ counts_words m
+-- what a metric is, and its values; nothing for a metric without values
+abbrev pub metric_words : List ℕ → List ℕ → List Sample → List ℕ
+metric_words name help [] = []
+metric_words name help (sample ∷ samples) =
+    comment_line (codes "# HELP payd_") name help
+    ++ comment_line (codes "# TYPE payd_") name (type_of name)
+    ++ flat_map (sample_line name) (sample ∷ samples)
 
--- of the own account
-abbrev pub used_words : ℕ → List ℕ
-used_words used =
-    metric_words (codes "payd_values_used") (codes "gauge")
-    (codes "Values of the own account that are used.") used
-    ++ metric_words (codes "payd_values_left") (codes "gauge")
-    (codes "Values of the own account that are left.") (SEQS - used)
+abbrev pub row_words : NodeFigures → OwnFigures → Row → List ℕ
+row_words f own row = metric_words row.1 row.2 (samples_of f own row.0)
 
-abbrev pub awaits_words : MemberFigures → List ℕ
-awaits_words m =
-    metric_words (codes "payd_waiting_entries") (codes "gauge")
-    (codes "Entries of the own account that wait, 1000 at most.") m.waiting
-    ++ metric_words (codes "payd_waiting_short") (codes "gauge")
-    (codes "What the own balance lacks of the first entry that waits.") m.short
-
-abbrev pub durable_words : Option ℕ → List ℕ
-durable_words entries =
-    known_words (codes "payd_history_durable_entries_total") (codes "counter")
-    (codes "Entries of the member's history that are on the disk.") entries
-
-abbrev pub own_words : OwnFigures → List ℕ
-own_words own =
-    known_words (codes "payd_log_bytes") (codes "gauge")
-    (codes "Size of the log in the node's folder.") own.log_bytes
-    ++ known_words (codes "payd_resident_memory_bytes") (codes "gauge")
-    (codes "Resident memory of the process.") own.resident_bytes
-    ++ metric_words (codes "payd_input_reads_left") (codes "gauge")
-    (codes "Reads of the desk's input before the node ends for their number.") own.reads_left
-
--- what is named by a label, as `name{version="0.1.0"} 1`
-abbrev pub version_sample : List ℕ → List ℕ → List ℕ
-version_sample name version =
-    name ++ codes "{version=\"" ++ version ++ codes "\"}" ++ sample_value 1
-
-abbrev pub version_words : List ℕ → List ℕ
-version_words version =
-    about_words (codes "payd_build_info") (codes "gauge")
-    (codes "The version of the program that runs.")
-    ++ version_sample (codes "payd_build_info") version
-
-abbrev pub program_words : OwnFigures → List ℕ
-program_words own =
-    known_words (codes "payd_start_time_seconds") (codes "gauge")
-    (codes "When the node started, in seconds since 1970.") own.started_seconds
-    ++ version_words own.version.now
-
--- all of it, in order
+-- the text of all metrics
 abbrev pub metrics_words : NodeFigures → OwnFigures → List ℕ
-metrics_words f own =
-    peers_words f.peers.items ++ fronts_words f.member.fronts.items ++ holding_words f.member
-    ++ used_words f.member.used ++ awaits_words f.member
-    ++ durable_words f.durable ++ own_words own ++ program_words own
+metrics_words f own = flat_map (row_words f own) metrics

@@ -1,11 +1,11 @@
--- What is said of a node's peers.
+-- What is printed about a node's peers.
 use Rattle.std.specs.Prelude.{List, ℕ, ◌++◌, Bool, true, false, ◌&&◌, not, nat_eq}
 use Rattle.std.specs.Prelude.{codes, decimal, if◌then◌else◌}
-use Rattle.pay_frame.specs.declared.kind.Kind.{Kind}
-use Rattle.pay_frame.specs.declared.kind.Kind.TheVariants.{Send, Echo, Ready, Want}
-use Rattle.pay_member.specs.declared.lie.Lie.{Lie}
-use Rattle.pay_net.specs.declared.news.News.{News}
-use Rattle.pay_net.specs.declared.news.News.TheVariants.{Met, Lost, GivenUp, Lied, Unopened}
+use Rattle.pay_frame.specs.declared.body.Kind.{Kind}
+use Rattle.pay_frame.specs.declared.body.Kind.TheVariants.{Send, Echo, Ready, Want}
+use Rattle.pay_member.specs.declared.ledger.Lie.{Lie}
+use Rattle.pay_net.specs.declared.contacts.News.{News}
+use Rattle.pay_net.specs.declared.contacts.News.TheVariants.{Met, Lost, GivenUp, Lied, Unopened}
 
 abbrev pub kind_words : Kind → List ℕ
 kind_words Send = codes "SEND"

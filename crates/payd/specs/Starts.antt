@@ -1,9 +1,9 @@
--- How a node's member was found.
-use Rattle.std.specs.Prelude.{Bool, true, false}
-use Rattle.payd.specs.declared.folders.FoundAs.{FoundAs}
-use Rattle.payd.specs.declared.folders.FoundAs.TheVariants.{New, Log}
+-- What is said of a node's member if more than `f` others know more of it than it does.
+use Rattle.std.specs.Prelude.{ℕ, if◌then◌else◌, nat_eq}
+use Rattle.pay_log.specs.declared.fault.LogFault.{LogFault}
+use Rattle.pay_log.specs.declared.fault.LogFault.TheVariants.{Forgotten, Known}
 
--- it goes on from a log, which may be an older one
-abbrev pub is_found : FoundAs → Bool
-is_found New = false
-is_found (Log dropped) = true
+-- what a node reports if more than f peers know more than its log, which had so many entries at the
+-- start: a log with none may be that of a folder that was made again
+abbrev pub rollback_fault : ℕ → LogFault
+rollback_fault entries = if nat_eq entries 0 then Known else Forgotten

@@ -1,19 +1,18 @@
--- The texts about an export that words ask for.
+-- The texts about an export that words request.
 use Rattle.std.specs.Prelude.{◌≡◌, ◌⊎◌, ℕ, Bool, true, false, List, map, Option, Some, None}
 use Rattle.std.specs.Prelude.{option_map, ◌∷◌, [], ◌++◌}
 use Rattle.std.specs.List.{AllZip}
 use Rattle.pay_audit.specs.Export.{ExportFields}
-use Rattle.pay_engine.specs.declared.engine_fault.EngineFault.TheVariants as engine
+use Rattle.pay_frame.specs.declared.engine.EngineFault.TheVariants as engine
 use Rattle.pay_journal.specs.Statements.{account_named, statement_in, statements_in}
 use Rattle.pay_group.specs.Text.{IsBookText}
 use Rattle.pay_group.specs.declared.texts.BookForm.{BookForm}
 use Rattle.pay_group.specs.declared.texts.BookForm.TheVariants.{AsExport, Lines, NextGenesis}
 use Rattle.pay_audit.specs.Verdict.{verdict_of, verdict_words}
-use Rattle.pay_audit.specs.declared.verdict.Verdict.{Verdict}
+use Rattle.pay_audit.specs.declared.auditing.Verdict.{Verdict}
 use Rattle.pay_audit.specs.Findings.{findings_words}
 use Rattle.pay_audit.specs.declared.findings.Named.{Named}
 use Rattle.payd.specs.Files.{IsExportOf, IsExportStop, IsExportsStop, IsVerdictOn}
-use Rattle.payd.specs.Jobs.{IsJobsStop}
 use Rattle.payd.specs.declared.stop.Stop.{Stop}
 use Rattle.payd.specs.declared.stop.Stop.TheVariants.{Engine, Account, Forms}
 
@@ -22,7 +21,7 @@ abbrev pub statement_said : ExportFields → Option (List ℕ) → Option (List 
 statement_said e None = Some (statements_in e)
 statement_said e (Some word) = option_map (statement_in e) (account_named e word)
 
--- why there is no statement: the word names no account, or memory was refused
+-- why there is no statement: the word names no account, or memory ran out
 abbrev pub IsStatementStop : ExportFields → Option (List ℕ) → Stop → Type 0
 IsStatementStop e account (Account word) =
     (account ≡ Some word.now) × (statement_said e account ≡ None)
@@ -36,28 +35,30 @@ pub record IsStatementIn (holds : List ℕ → List ℕ → Type 0) (name : List
   pub read : IsExportOf holds name e
   pub said : Some text ≡ statement_said e account
 
--- why there is none: the file isn't an export, or there is no statement of that
+-- why there is none: the file isn't an export, or there is no statement of that account
 abbrev pub IsNoStatementIn :
     (List ℕ → List ℕ → Type 0) → List ℕ → Option (List ℕ) → Stop → Type 0
 IsNoStatementIn holds name account stop =
     IsExportStop holds name stop
     ⊎ ((e : ExportFields) × IsExportOf holds name e × IsStatementStop e account stop)
 
--- how a book is written, by its two flags; nothing says both
+-- the form of a group ledger, according to its two flags; both together give none
 abbrev pub form_by : Bool → Bool → Option BookForm
 form_by false false = Some Lines
 form_by true false = Some NextGenesis
 form_by false true = Some AsExport
 form_by true true = None
 
--- Each file is read as an export, and this text is said of these: it is a book's, or a fault's.
+-- Each file is read as an export, and this text is said about them: it is a group ledger's, or a
+-- fault's.
 pub record IsBookSaid (holds : List ℕ → List ℕ → Type 0) (names : List (List ℕ)) (form : BookForm)
     (is_book : Bool) (text : List ℕ) : Type 0 where
   pub exports : List ExportFields
   pub read : AllZip (IsExportOf holds) names exports
   pub said : IsBookText exports form is_book text
 
--- Some text is said of these files' exports in this form, and it is a book's or a fault's.
+-- Some text is said about these files' exports in this form, and it is a group ledger's or a
+-- fault's.
 pub record IsBookIn (holds : List ℕ → List ℕ → Type 0) (names : List (List ℕ))
     (form : Option BookForm) (is_book : Bool) : Type 0 where
   pub which : BookForm
@@ -93,21 +94,18 @@ pub record AreFindings (holds : List ℕ → List ℕ → Type 0) (names : List 
   pub judged : verdict ≡ verdict_of exports
   pub are : AreSaid names exports text
 
--- why nothing is said: a file isn't an export, or memory was refused
+-- why nothing is said: a file isn't an export, or memory ran out
 abbrev pub IsTextStop : (List ℕ → List ℕ → Type 0) → List (List ℕ) → Stop → Type 0
 IsTextStop holds names stop = IsExportsStop holds names stop ⊎ (stop ≡ Engine engine.Memory)
 
--- why no book is written, or not all of it: also where two forms are asked for, or the text can't
--- be written
+-- why no group ledger is written, or not all of it; this includes a request for two forms, and a
+-- text that can't be written
 abbrev pub IsBookStop :
     (List ℕ → List ℕ → Type 0) → List (List ℕ) → Option BookForm → Stop → Type 0
 IsBookStop holds names form stop =
     IsTextStop holds names stop
     ⊎ ((stop ≡ Forms) × (form ≡ None)) ⊎ (stop ≡ Engine engine.Write)
 
--- why an audit says nothing, or not all: also where its jobs are no count, or the text can't be
--- written
-abbrev pub IsAuditStop :
-    (List ℕ → List ℕ → Type 0) → List (List ℕ) → Option (List ℕ) → Stop → Type 0
-IsAuditStop holds names jobs stop =
-    IsTextStop holds names stop ⊎ IsJobsStop jobs stop ⊎ (stop ≡ Engine engine.Write)
+-- why an audit says nothing, or not all; this includes a text that can't be written
+abbrev pub IsAuditStop : (List ℕ → List ℕ → Type 0) → List (List ℕ) → Stop → Type 0
+IsAuditStop holds names stop = IsTextStop holds names stop ⊎ (stop ≡ Engine engine.Write)

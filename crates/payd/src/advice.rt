@@ -1,67 +1,70 @@
-//! What is said of a fault behind its line: where, why as far as the system tells, and what to do.
+//! What is said about a fault after its line: the place, the reason as far as the system gives one,
+//! and a remedy.
 
-ghost use Rattle.std.specs.Prelude.{◌≡◌, is_some};
+ghost use Rattle.std.specs.Prelude.{◌≡◌, position, string_bytes, is_some};
 ghost use Rattle.payd.specs.Advice.{has_advice, reason_words};
+ghost use Rattle.payd.specs.Controls.{has_control, is_control};
 ghost use Rattle.payd.specs.declared.stop.Stop.TheVariants.{Engine};
 
 use crate::files::MOST_BYTES;
 use crate::stop::Stop;
 use pay_audit::ExportFault;
-use pay_engine::EngineFault;
+use pay_frame::EngineFault;
 use pay_link::{GenesisFault, KeysFault};
-use pay_log::{LogFault, Mismatch};
+use pay_log::{LogFault, LogPart, Mismatch, Obstacle};
 use pay_net::PortsFault;
 use pay_node::CloseFault;
-use std::alloc::AllocGlobal;
-use std::fs::File;
-use std::io::{ErrorKind, Write};
-use std::net::{IpAddr, Ipv4Addr, Net, SocketAddr, TcpListener, TcpStream};
-use std::os::unix::fs::{FileTypeExt, OpenOptionsExt};
-use std::rt::Files;
-use std::{fs, io};
+use std::io::ErrorKind;
 
-/// What can say of a fault what a second look at files and ports shows.
-pub(crate) trait Looks: AllocGlobal
-    + Eprint
-    + Files<File = File>
-    + Net<Listener = TcpListener, Stream = TcpStream> {}
-
-impl<R> Looks for R
-where
-    R: AllocGlobal + Eprint + Files<File = File> + Net<Listener = TcpListener, Stream = TcpStream>,
-{}
-
-/// The folder of a job, and what it does there.
-#[derive(Clone, Copy, Debug)]
-pub(crate) enum Place<'a> {
-    Nowhere,
-    /// It reads the log.
-    Read(&'a str),
-    /// It writes the log.
-    Write(&'a str),
+/// Returns the index of the first of `words` that has a control character: a byte below 32, or 127.
+pub(crate) fn control_in(words: &[String]) -> Option<usize>
+    ensures { result ≡ position (λ word. has_control (string_bytes word)) words.now }
+{
+    words.iter().position(|word| has_control(word.as_bytes()))
 }
 
-/// Where a folder that can't be written is tried again.
-const TRIAL: &str = "trial.new";
+/// Returns whether `word` has a control character.
+pub(crate) fn has_control(word: &[u8]) -> bool
+    ensures { result ≡ has_control word.now }
+{
+    word.iter().any(|byte| is_control(*byte))
+}
 
-const TRIAL_MODE: u32 = 0o600;
+fn is_control(byte: u8) -> bool
+    ensures { result ≡ is_control byte }
+{
+    byte < 32 || byte == 127
+}
 
-/// As many bytes are written there: a file system has smaller ones without room of their own.
-const TRIAL_BYTES: [u8; 4096] = [0; 4096];
+/// The prefix of a mistake's text, as the reader of the words writes it.
+const BEGINNING: &str = "error: ";
+
+/// Prints what is wrong with the words, and the remedies in the text of the mistake: a line for
+/// each that isn't empty.
+pub(crate) fn say_mistake(rt: &impl Eprint, text: &str) {
+    let text = text.strip_prefix(BEGINNING).unwrap_or(text);
+    for line in text.lines() {
+        if !line.is_empty() {
+            let _ = eprintln!(rt; "payd: {line}");
+        }
+    }
+}
+
+const UNTOLD: &str = "the system doesn't say why";
 
 const NO_MEMORY: &str = "memory ran out: free some, and try again";
 
 const NOT_JSON: &str = "it isn't JSON: name the right file";
 
+const MOVE_AWAY: &str = "look what it is for, move it away, and start again";
+
 const OTHER_GROUP: &str =
     "these keys are of another group than the genesis's file, or it says something else since they \
 were made";
 
-const GIVE_AGAIN: &str =
-    "the node may have taken the lines: give them again, for an id is paid once";
-
-/// Says what it can of a fault, a line, if its own line doesn't say all.
-pub(crate) fn say_advice(rt: &impl Looks, stop: &Stop, place: Place) {
+/// Prints what is known about a fault in one line, if its own line doesn't say all. The line names
+/// the folder of a job that has one.
+pub(crate) fn say_advice(rt: &impl Eprint, stop: &Stop, folder: Option<&str>) {
     match stop {
         Stop::File(name, ErrorKind::FileTooLarge) => {
             let _ = eprintln!(rt; "payd: cannot read {name}: it has more than {MOST_BYTES} bytes");
@@ -74,9 +77,18 @@ pub(crate) fn say_advice(rt: &impl Looks, stop: &Stop, place: Place) {
             let why = reason_of(*kind);
             let _ = eprintln!(rt; "payd: cannot listen on {path}: {why}");
         }
-        Stop::Port(port) => say_port(rt, *port),
-        Stop::Nobody(path) => say_nobody(rt, path.as_str()),
-        Stop::Log(LogFault::Disk) | Stop::Unkept(_) => say_disk(rt, place),
+        Stop::Port(port, kind) => {
+            let why = reason_of(*kind);
+            let _ = eprintln!(rt; "payd: cannot bind 127.0.0.1:{port}: {why}");
+        }
+        Stop::Taken(path, obstacle) => {
+            let kind = obstacle.map_or("file", Obstacle::name);
+            let _ = eprintln!(rt; "payd: {path} is a {kind}: {MOVE_AWAY}");
+        }
+        Stop::Log(LogFault::Disk(kind)) | Stop::Unkept(LogFault::Disk(kind)) => {
+            say_disk(rt, folder, *kind)
+        }
+        Stop::Log(LogFault::Blocked(part, obstacle)) => say_blocked(rt, folder, *part, *obstacle),
         _ => {
             if let Some(advice) = advice_on(stop) {
                 let _ = eprintln!(rt; "payd: {advice}");
@@ -85,95 +97,45 @@ pub(crate) fn say_advice(rt: &impl Looks, stop: &Stop, place: Place) {
     }
 }
 
-/// What to do about a fault of a log, which may be said while a node runs.
+/// Prints the remedy for a fault of a log. The log may belong to a node that runs.
 pub(crate) fn say_log_advice(rt: &impl Eprint, fault: LogFault) {
     let advice = log_advice(fault);
     let _ = eprintln!(rt; "payd: {advice}");
 }
 
-// Looks again whether the port can be had.
-fn say_port(rt: &impl Looks, port: u16) {
-    let address = SocketAddr::new(IpAddr::V4(Ipv4Addr::LOCALHOST), port);
-    let why = match TcpListener::bind(rt, address) {
-        Ok(_) => "it is free by now: start again",
-        Err(error) => reason_of(error.kind()),
+// Prints which name of a folder belongs to something that is no file.
+fn say_blocked(rt: &impl Eprint, folder: Option<&str>, part: LogPart, obstacle: Obstacle) {
+    let _ = match folder {
+        None => eprintln!(rt; "payd: {part} is a {obstacle}: {MOVE_AWAY}"),
+        Some(folder) => eprintln!(rt; "payd: {folder}/{part} is a {obstacle}: {MOVE_AWAY}"),
     };
-    let _ = eprintln!(rt; "payd: cannot bind 127.0.0.1:{port}: {why}");
 }
 
-// Looks what has the name on which nobody listens.
-fn say_nobody(rt: &impl Looks, path: &str) {
-    let why = match fs::symlink_metadata(rt, path) {
-        Ok(found) if found.file_type().is_socket() => "its node has ended: start it",
-        Ok(_) => "that is no socket: name the node's folder or socket",
-        Err(error) if error.kind() == ErrorKind::NotFound => {
-            "there is no such socket: start the node, or name its folder or socket"
-        }
-        Err(error) => reason_of(error.kind()),
-    };
-    let _ = eprintln!(rt; "payd: {path}: {why}");
-}
-
-// Looks what can't be done in the folder of a log.
-fn say_disk(rt: &impl Looks, place: Place) {
-    let found = match place {
-        Place::Nowhere => None,
-        Place::Read(folder) => Some((folder, "read", fault_of_reading(rt, folder))),
-        Place::Write(folder) => Some((folder, "write in", fault_of_writing(rt, folder))),
-    };
-    let Some((folder, what, fault)) = found else {
-        return say_log_advice(rt, LogFault::Disk);
-    };
-    let _ = match fault {
-        Some(kind) => {
-            let why = reason_of(kind);
-            eprintln!(rt; "payd: cannot {what} {folder}: {why}: mend that, and start again")
-        }
-        None => {
-            let advice = log_advice(LogFault::Disk);
-            eprintln!(rt; "payd: {folder}: {advice}")
+// Prints why the disk of a log failed.
+fn say_disk(rt: &impl Eprint, folder: Option<&str>, kind: ErrorKind) {
+    let (why, advice) = (reason_of(kind), log_advice(LogFault::Disk(kind)));
+    let _ = match folder {
+        None => eprintln!(rt; "payd: {advice}"),
+        Some(folder) if why == UNTOLD => eprintln!(rt; "payd: {folder}: {advice}"),
+        Some(folder) => {
+            eprintln!(rt; "payd: cannot use {folder}: {why}: mend that, and start again")
         }
     };
 }
 
-fn fault_of_reading(rt: &impl Files<File = File>, folder: &str) -> Option<ErrorKind> {
-    match fs::open(rt, folder) {
-        Ok(_) => None,
-        Err(error) => Some(error.kind()),
-    }
+/// Prints why a file of a node can't be written. Its payments don't depend on that file.
+pub(crate) fn say_unwritten(rt: &impl Eprint, path: &str, kind: ErrorKind) {
+    let why = reason_of(kind);
+    let _ = eprintln!(rt; "payd: {path} can't be written: {why}");
 }
 
-// By a file that is written there and removed.
-fn fault_of_writing(rt: &impl Looks, folder: &str) -> Option<ErrorKind> {
-    let Ok(path) = format!(in rt.alloc(); "{folder}/{TRIAL}") else {
-        return Some(ErrorKind::OutOfMemory);
-    };
-    let tried = try_writing(rt, path.as_str());
-    let _ = fs::remove_file(rt, path.as_str());
-    match tried {
-        Ok(()) => None,
-        Err(error) => Some(error.kind()),
-    }
-}
-
-fn try_writing<R: Files<File = File>>(rt: &R, path: &str) -> io::Result<()> {
-    let mut file = File::options()
-        .write(true)
-        .create(true)
-        .truncate(true)
-        .mode(TRIAL_MODE)
-        .open(rt, path)?;
-    file.write_all(&TRIAL_BYTES)?;
-    file.sync_all()
-}
-
-/// What to do about a fault, if its line doesn't say all.
+/// Returns the remedy for a fault, if its line doesn't say all.
 fn advice_on(stop: &Stop) -> Option<&'static str>
     ensures { is_some result ≡ has_advice stop.now }
 {
     match stop {
         Stop::Engine(fault) => engine_advice(*fault),
-        Stop::Unkept(_) => Some(log_advice(LogFault::Disk)),
+        Stop::Unkept(fault) => Some(log_advice(*fault)),
         Stop::Genesis(fault, _) => Some(genesis_advice(*fault)),
         Stop::Keys(fault, _) => Some(keys_advice(*fault)),
         Stop::OtherGroup(_) => Some(OTHER_GROUP),
@@ -182,24 +144,20 @@ fn advice_on(stop: &Stop) -> Option<&'static str>
         Stop::Close(fault) => Some(close_advice(*fault)),
         Stop::Log(fault) => Some(log_advice(*fault)),
         Stop::File(..) => Some("look whether the file is there and may be read"),
-        Stop::Port(_) => Some("look which program has the port"),
+        Stop::Port(..) => Some("look which program has the port"),
         Stop::Socket(..) => Some("look what has the name"),
-        Stop::Nobody(_) => Some("start the node, or name its folder or socket"),
-        Stop::Barred(_) => Some("call it as the user of the node"),
-        Stop::Late(_) => Some(GIVE_AGAIN),
-        Stop::Unanswered => Some("start the node, and give the lines again: an id is paid once"),
+        Stop::Taken(..) => Some(MOVE_AWAY),
         Stop::Account(_) => Some("the export has no account of this number"),
         Stop::Clock => Some("set the machine's clock, or name the day by --date"),
-        Stop::Forgets
+        Stop::Forgets(_)
         | Stop::New
         | Stop::Stay
-        | Stop::NoNode
         | Stop::LongSocket(_)
+        | Stop::Descriptors(..)
         | Stop::Control(_)
-        | Stop::Timeout(_)
+        | Stop::Parts(_)
         | Stop::Dials(_)
         | Stop::Ahead(_)
-        | Stop::Jobs(_)
         | Stop::Forms
         | Stop::Date(_) => None,
     }
@@ -272,11 +230,11 @@ fn close_advice(fault: CloseFault) -> &'static str {
     }
 }
 
-/// What to do about a fault of a log.
+/// Returns the remedy for a fault of a log.
 fn log_advice(fault: LogFault) -> &'static str {
     match fault {
         LogFault::Memory => NO_MEMORY,
-        LogFault::Disk => {
+        LogFault::Disk(_) => {
             "a read, write or sync failed: make room, or mend the disk or the folder's rights, and \
 start again"
         }
@@ -292,8 +250,9 @@ folder from this very moment"
 older one"
         }
         LogFault::Forgotten => {
-            "this log is older than what the group has settled for its member: never start it \
-again in this group; its balance goes on in the next one"
+            "the group knows more of this member than its log: look for a newer folder, on another \
+machine or where this one was copied from, and start that one; only if there is none does its \
+balance go on in the next group"
         }
         LogFault::Missing => {
             "there is no log in this folder: --new makes a member there, but one that had a log \
@@ -301,6 +260,15 @@ needs that very log, which may be on a disk that isn't mounted"
         }
         LogFault::Exists => {
             "there is or was a log in this folder: without --new its member goes on where it was"
+        }
+        LogFault::Blocked(..) => MOVE_AWAY,
+        LogFault::Unnamed => {
+            "the log was removed or renamed while its node ran: put that very log back, never an \
+older one, and start again"
+        }
+        LogFault::Known => {
+            "others took payments or votes of this member, so a folder of it exists or existed: \
+start that one; only if it is gone does its balance go on in the next group"
         }
     }
 }
@@ -315,8 +283,8 @@ fn foreign_advice(mismatch: Mismatch) -> &'static str {
     }
 }
 
-/// Why the system refused something.
-fn reason_of(kind: ErrorKind) -> &'static str
+/// Returns the reason for which the system refused something.
+pub(crate) fn reason_of(kind: ErrorKind) -> &'static str
     ensures { result.now ≡ reason_words kind }
 {
     match kind {
@@ -332,6 +300,7 @@ fn reason_of(kind: ErrorKind) -> &'static str
         ErrorKind::ReadOnlyFilesystem => "the disk may only be read",
         ErrorKind::FilesystemLoop => "links of its path lead in a circle",
         ErrorKind::InvalidFilename => "no file can have this name",
-        _ => "the system doesn't say why",
+        ErrorKind::OutOfMemory => "memory ran out",
+        _ => UNTOLD,
     }
 }

@@ -1,22 +1,22 @@
-//! The files that words name. Each is judged before the next is read, but for the exports of an
-//! audit with several jobs: of these `batches` reads and judges as many side by side.
+//! The files that words name. Each is judged before the next is read.
 
-ghost use Rattle.std.specs.Prelude.{◌≡◌, ◌+◌, ◌≤◌, ℕ, List, Ok, Some, IfErr, IfOk, IfSome};
-ghost use Rattle.std.specs.Prelude.{map, take};
+ghost use Rattle.std.specs.Prelude.{◌≡◌, IfErr, IfOk, length, ◌+◌, ◌≤◌, ℕ, List, Ok, Some, IfSome};
+ghost use Rattle.std.specs.Prelude.{map, min, sum_by, take};
 ghost use Rattle.std.specs.List.{AllZip};
 ghost use Rattle.std.specs.Option.{option_map};
 ghost use Rattle.pay_link.specs.Files.{genesis_in, keys_in_file};
 ghost use Rattle.pay_link.specs.Keys.{IsKeysOf};
-ghost use Rattle.payd.specs.Files.{AreKeysIn, AreOfMember, IsExportOf, IsExportStop};
-ghost use Rattle.payd.specs.Files.{IsExportsStop, IsGenesisFault, IsGenesisOf, IsGenesisStop};
-ghost use Rattle.payd.specs.Files.{IsKeysFault, IsKeysStop, IsMemberStop, IsUnread, IsVerdictOn};
-ghost use Rattle.payd.specs.Files.{most_bytes};
+ghost use Rattle.payd.specs.Files.{ArePortsIn, IsPortsStop, AreKeysIn, AreOfMember, IsExportOf};
+ghost use Rattle.payd.specs.Files.{IsExportStop, IsExportsStop, IsGenesisFault, IsGenesisOf};
+ghost use Rattle.payd.specs.Files.{IsGenesisStop, IsKeysFault, IsKeysStop, IsMemberStop, IsUnread};
+ghost use Rattle.payd.specs.Files.{IsVerdictOn, memory_of_byte, most_bytes, takes_too_much};
 
-use crate::copies::{Given, given_in};
+use crate::folders::{Given, given_in};
 use crate::stop::Stop;
 use pay_audit::{Auditor, Export, Verdict, read_export};
-use pay_engine::EngineFault;
+use pay_frame::EngineFault;
 use pay_link::{Genesis, Keys, test_keys};
+use pay_net::Ports;
 use std::alloc::Global;
 use std::fs::OpenFile;
 use std::io::Read;
@@ -24,42 +24,85 @@ use std::os::unix::fs::PermissionsExt;
 use std::rt::Files;
 use std::{fs, io};
 
-/// Who but a file's owner may do something with it.
+/// Returns the ports in the file `name`.
+// promise: words and files
+pub(crate) fn ports_of<'a, F: NamedFiles>(
+    alloc: Global,
+    files: &F,
+    genesis: &Genesis,
+    name: &'a str,
+) -> Result<Ports, Stop<'a>>
+    ensures value { IfOk result
+        (ArePortsIn (F.holds files.now) genesis.now.members name.entry.now) }
+    ensures stop { IfErr result
+        (IsPortsStop (F.holds files.now) genesis.now.members name.entry.now) }
+    ensures count { IfOk result (λ ports. length ports ≡ genesis.now.members) }
+{
+    let bytes = files.bytes_of(alloc, name)?;
+    match Ports::read(alloc, genesis, bytes.as_slice()) {
+        Ok(ports) => Ok(ports),
+        Err(fault) => Err(Stop::Ports(fault, name)),
+    }
+}
+
+/// The bits of a mode that let others than a file's owner use it.
 const OTHERS: u32 = 0o077;
 
-/// A file of more bytes counts as one that can't be read.
+/// The greatest size of a file in bytes. A larger file counts as unreadable.
 pub(crate) const MOST_BYTES: u64 = 1_073_741_824;
 
-/// Members, faults and opening amounts where no file names them.
+/// The limits of the memory that a file's contents may take: this many times its size, and this
+/// much more. The file's characters tell the need before it is read. These parts have a cost each:
+/// an item of a list, the room of a list with items, an object's first member, an end of a text,
+/// any other byte.
+const MOST_TIMES: u64 = 16;
+
+const ROOM: u64 = 1 << 22;
+
+const OF_ITEM: u64 = 33;
+
+const OF_LIST: u64 = 176;
+
+const OF_MEMBER: u64 = 900;
+
+const OF_END: u64 = 7;
+
+const OF_BYTE: u64 = 14;
+
+/// The members, faults and opening amounts that apply if no file names them.
 const MEMBERS: u64 = 4;
 
 const FAULTS: u64 = 1;
 
 const OPENING: [u64; 4] = [100, 0, 0, 50];
 
-/// Who gives the bytes of files by their names.
+/// A provider of the bytes of files by their names.
 pub(crate) trait NamedFiles {
-    // The bytes that a name's file may hold.
+    // The bytes that the file of a name may hold.
     ghost holds: { Self → List ℕ → List ℕ → Type 0 };
 
-    /// All bytes of the file of this name.
+    /// Returns all bytes of the file `name`.
     fn bytes_of<'a>(&self, alloc: Global, name: &'a str) -> Result<Vec<u8>, Stop<'a>>
         ensures ok { IfOk result (λ bytes. holds self.now name.entry.now bytes.items) }
         ensures err { IfErr result (IsUnread name.entry.now) };
 }
 
 impl<F: Files> NamedFiles for F {
-    ghost use Rattle.std.specs.Prelude.{◌≤◌, length};
-    ghost use Rattle.payd.specs.Files.{most_bytes};
+    ghost use Rattle.std.specs.Prelude.{◌≡◌, ◌≤◌, false, length};
+    ghost use Rattle.payd.specs.Files.{most_bytes, takes_too_much};
 
-    // of what a file holds nothing is known but that it isn't too long
-    ghost holds = { λ _ _ bytes. length bytes ≤ most_bytes };
+    // all that is known about a file's contents is that they aren't too long, and have few enough
+    // parts
+    ghost holds = { λ _ _ bytes. (length bytes ≤ most_bytes) × (takes_too_much bytes ≡ false) };
 
     fn bytes_of<'a>(&self, alloc: Global, name: &'a str) -> Result<Vec<u8>, Stop<'a>> {
         match read(alloc, self, name) {
             Ok(bytes) => {
                 if bytes.len() as u64 > MOST_BYTES {
                     return Err(Stop::File(name, io::ErrorKind::FileTooLarge));
+                }
+                if takes_too_much(bytes.as_slice()) {
+                    return Err(Stop::Parts(name));
                 }
                 Ok(bytes)
             }
@@ -73,7 +116,41 @@ impl<F: Files> NamedFiles for F {
     }
 }
 
-/// A member's genesis and its keys, in the files of these names.
+/// Returns whether the contents of a text of JSON may take too much memory for its size.
+// promise: words and files
+fn takes_too_much(bytes: &[u8]) -> bool
+    requires { length bytes.now ≤ most_bytes }
+    ensures { result ≡ takes_too_much bytes.now }
+{
+    let memory = memory_of(bytes);
+    memory > MOST_TIMES * bytes.len() as u64 + ROOM
+}
+
+// Returns how much memory the contents of `bytes` may take.
+fn memory_of(bytes: &[u8]) -> u64
+    ensures { result ≡ min (sum_by memory_of_byte bytes.now) u64.MAX }
+{
+    let mut sum: u64 = 0;
+    for byte in bytes {
+        sum = sum.saturating_add(memory_of_byte(*byte));
+    }
+    sum
+}
+
+fn memory_of_byte(byte: u8) -> u64
+    ensures { result ≡ memory_of_byte byte }
+{
+    match byte {
+        b',' => OF_ITEM,
+        b'[' => OF_LIST,
+        b':' => OF_MEMBER,
+        b'"' => OF_END,
+        b']' | b'{' | b'}' => 1,
+        _ => OF_BYTE,
+    }
+}
+
+/// Returns a member's genesis and its keys, from the files of these names.
 // promise: words and files
 pub(crate) fn member_of<'a, F: NamedFiles>(
     alloc: Global,
@@ -91,7 +168,8 @@ pub(crate) fn member_of<'a, F: NamedFiles>(
     Ok((genesis, keys))
 }
 
-/// The same, or what stands for a file that isn't named: four members, and the test keys.
+/// Returns a member's genesis and its keys. If a file isn't named, four members or the test keys
+/// take its place.
 pub(crate) fn member_or_test<'a, F: NamedFiles>(
     alloc: Global,
     files: &F,
@@ -108,7 +186,7 @@ pub(crate) fn member_or_test<'a, F: NamedFiles>(
     Ok((genesis, keys))
 }
 
-/// The genesis that these bytes of the file of this name are.
+/// Returns the genesis that `bytes`, the contents of the file `name`, are.
 pub(crate) fn genesis_in<'a>(
     alloc: Global,
     bytes: &[u8],
@@ -123,7 +201,7 @@ pub(crate) fn genesis_in<'a>(
     }
 }
 
-/// The keys that these bytes of the file of this name are.
+/// Returns the keys that `bytes`, the contents of the file `name`, are.
 pub(crate) fn keys_in<'a>(
     alloc: Global,
     genesis: &Genesis,
@@ -140,7 +218,7 @@ pub(crate) fn keys_in<'a>(
     }
 }
 
-/// The genesis in the file of this name, or that of four members.
+/// Returns the genesis in the file `name`, or that of four members.
 // promise: words and files
 fn genesis_of<'a, F: NamedFiles>(
     alloc: Global,
@@ -164,7 +242,7 @@ fn genesis_of<'a, F: NamedFiles>(
     }
 }
 
-/// The keys in the file of this name, or the test keys of member 1, or of 0 where there is no
+/// Returns the keys in the file `name`, or the test keys of member 1, or of member 0 if there is no
 /// other.
 // promise: words and files
 fn keys_of<'a, F: NamedFiles>(
@@ -191,8 +269,8 @@ fn keys_of<'a, F: NamedFiles>(
     }
 }
 
-/// What is wrong with the exports in the files of these names, if anything is. Each is let go
-/// before the next is read.
+/// Returns what is wrong with the exports in the files of these `names`, if anything is. Each is
+/// dropped before the next is read.
 // promise: words and files
 pub(crate) fn verdict_on<'a, F: NamedFiles>(
     alloc: Global,
@@ -212,7 +290,7 @@ pub(crate) fn verdict_on<'a, F: NamedFiles>(
     Ok(auditor.verdict())
 }
 
-/// The exports in the files of these names, in their order. All are in memory at once.
+/// Returns the exports in the files of these `names`, in their order. All are in memory at once.
 // promise: words and files
 pub(crate) fn exports_of<'a, F: NamedFiles>(
     alloc: Global,
@@ -232,7 +310,7 @@ pub(crate) fn exports_of<'a, F: NamedFiles>(
     Ok(exports)
 }
 
-/// The export in the file of this name.
+/// Returns the export in the file `name`.
 // promise: words and files
 pub(crate) fn export_of<'a, F: NamedFiles>(
     alloc: Global,
@@ -249,8 +327,7 @@ pub(crate) fn export_of<'a, F: NamedFiles>(
     }
 }
 
-/// Says on standard error where others than the owner may do something with the file of keys of
-/// this name.
+/// Prints a warning on standard error if others than the owner may use the file of keys `name`.
 pub(crate) fn warn_of_keys(rt: &(impl Files + Eprint), name: &str) {
     if let Ok(metadata) = fs::metadata(rt, name) {
         if metadata.permissions().mode() & OTHERS != 0 {
@@ -259,7 +336,7 @@ pub(crate) fn warn_of_keys(rt: &(impl Files + Eprint), name: &str) {
     }
 }
 
-/// The bytes of the file of this name, or one byte more than there may be.
+/// Returns the bytes of the file `name`, or one byte more than the limit.
 fn read(alloc: Global, rt: &impl Files, name: &str) -> io::Result<Vec<u8>> {
     let file = fs::open(rt, name)?;
     if file.metadata()?.len() > MOST_BYTES {
@@ -268,7 +345,7 @@ fn read(alloc: Global, rt: &impl Files, name: &str) -> io::Result<Vec<u8>> {
     read_within(alloc, file)
 }
 
-/// All bytes that are left of a source, or one byte more than there may be of a file.
+/// Returns all bytes that are left of `source`, or one byte more than the limit of a file.
 fn read_within<R: Read + Drop>(alloc: Global, source: R) -> io::Result<Vec<u8>>
     ensures { IfOk result (λ bytes. IfSome (R.remaining source) (λ left.
         bytes.items ≡ take (most_bytes + 1) left)) }

@@ -1,21 +1,204 @@
-//! Whether keys are of the group whose file the genesis is.
+//! The group that a genesis's file and keys belong to, and what that file calls the group and its
+//! members.
 
-ghost use Rattle.std.specs.Prelude.{◌≡◌, ◌++◌, ◌↔◌, IfOk, IsTrue, OnOk, map, option_map};
+ghost use Rattle.std.specs.Prelude.{◌≡◌, ◌+◌, ◌%◌, ◌<◌, ◌++◌, ◌↔◌, IfOk, IsTrue, OnOk, map};
+ghost use Rattle.std.specs.Prelude.{option_map};
 ghost use Rattle.pay_link.specs.Json as file;
 ghost use Rattle.serde_json.specs.View.{view};
 ghost use Rattle.payd.specs.Groups.{IsOther, count_words, digits_named, digits_of};
 ghost use Rattle.payd.specs.Groups.{first_digits, former_line, genesis_lines, group_line};
-ghost use Rattle.payd.specs.Groups.{group_lines, group_text, names_lines, text_named};
+ghost use Rattle.payd.specs.Groups.{fifth_words, fifths_words, fingerprint_of, group_lines};
+ghost use Rattle.payd.specs.Groups.{group_text, called_words, names_lines, text_named, unit_line};
 ghost use Rattle.std.specs.List.{flat_map};
 
 use hex::encode_to_slice;
-use pay_link::{Genesis, value_in};
+use pay_link::{Genesis, number_at, value_in};
 use pay_text::{push_number, push_word};
 use serde_json::Value;
-use sha2::{Digest, Sha256};
+use sha2::{Digest, Sha256, Sha512};
 use std::alloc::{AllocError, Global};
+use std::{fmt, str};
 
-/// Whether keys name a group, and it isn't that whose file has this genesis and these bytes.
+/// The count of groups of digits in a fingerprint.
+const FIFTHS: usize = 12;
+
+/// The name of a group and of its members: its fingerprint and their names, if a group's file has
+/// them. Other files have none.
+#[derive(Drop)]
+pub(crate) struct Called {
+    fingerprint: Option<Vec<u8>>,
+    names: Vec<String>,
+}
+
+/// What a line says about a group: its fingerprint, if it has one.
+#[derive(Clone, Copy)]
+pub(crate) struct GroupSaid<'a>(Option<&'a str>);
+
+/// A member's number, and its name if it is known.
+#[derive(Clone, Copy)]
+pub(crate) struct MemberSaid<'a> {
+    pub(crate) number: u16,
+    pub(crate) name: Option<&'a str>,
+}
+
+impl Called {
+    /// Returns the number and the name of a member.
+    pub(crate) fn member(&self, number: u16) -> MemberSaid<'_>
+        ensures { result.number ≡ number }
+    {
+        MemberSaid {
+            number,
+            name: self.name(number),
+        }
+    }
+
+    /// Returns a member's name, if it has one that stays in its line.
+    pub(crate) fn name(&self, number: u16) -> Option<&str> {
+        let name = self.names.get(usize::from(number))?.as_str();
+        if is_plain(name) { Some(name) } else { None }
+    }
+
+    /// Returns what a line says about the group.
+    pub(crate) fn group(&self) -> GroupSaid<'_> {
+        match &self.fingerprint {
+            Some(digits) => GroupSaid(str::from_utf8(digits.as_slice()).ok()),
+            None => GroupSaid(None),
+        }
+    }
+}
+
+impl fmt::Display for GroupSaid<'_> {
+    fn fmt<W: fmt::Write>(&self, f: &mut fmt::Formatter<W>) -> fmt::Result {
+        match self.0 {
+            Some(fingerprint) => write!(f, ", group{fingerprint}"),
+            None => Ok(()),
+        }
+    }
+}
+
+impl fmt::Display for MemberSaid<'_> {
+    ghost use Rattle.std.specs.Prelude.{Some};
+    ghost use Rattle.std.specs.Option.{option_copied};
+    ghost use Rattle.payd.specs.Groups.{called_words};
+
+    ghost output = { λ said. Some (called_words said.number (option_copied said.name)) };
+
+    fn fmt<W: fmt::Write>(&self, f: &mut fmt::Formatter<W>) -> fmt::Result {
+        match self.name {
+            Some(name) => write!(f, "{} {name}", self.number),
+            None => write!(f, "{}", self.number),
+        }
+    }
+}
+
+// Returns whether `name` has nothing that hides it or ends its line. It may have letters and digits
+// of any script, and what may stand between them.
+fn is_plain(name: &str) -> bool {
+    !name.is_empty()
+        && name.chars().all(|letter| letter.is_alphanumeric()
+            || matches!(letter, ' ' | '.' | '_' | '-'))
+}
+
+/// Returns the names of a group of this `genesis` and of its members, from the bytes of `file`.
+pub(crate) fn called_in(
+    alloc: Global,
+    genesis: &Genesis,
+    file: &[u8],
+) -> Result<Called, AllocError> {
+    let mut names = Vec::new(alloc);
+    let Some(file) = value_in(alloc, file)? else {
+        return Ok(Called {
+            fingerprint: None,
+            names,
+        });
+    };
+    if let Some(texts) = texts_at(alloc, &file, "names")? {
+        for text in &texts {
+            names.push(String::from_str(alloc, text)?)?;
+        }
+    }
+    Ok(Called {
+        fingerprint: fingerprint_of(alloc, genesis, &file)?,
+        names,
+    })
+}
+
+// Returns the fingerprint of the group of `file`, with a blank before each group of its digits.
+fn fingerprint_of(
+    alloc: Global,
+    genesis: &Genesis,
+    file: &Value,
+) -> Result<Option<Vec<u8>>, AllocError>
+    ensures { IfOk result (λ digits.
+        option_map (λ digits. digits.items) digits ≡ fingerprint_of genesis.now (view file.now)) }
+{
+    let Some(mut text) = group_text(alloc, genesis, file)? else {
+        return Ok(None);
+    };
+    push_unit(&mut text, file)?;
+    let digest = Sha512::digest(text.as_slice());
+    Ok(Some(fifths_of(alloc, &digest)?))
+}
+
+fn push_unit(text: &mut Vec<u8>, file: &Value) -> Result<(), AllocError>
+    ensures { OnOk result (text.new.items ≡ text.old.items ++ unit_line (view file.now)) }
+{
+    let Some(unit) = text_at(file, "unit") else {
+        return Ok(());
+    };
+    let Some(decimals) = number_at(file, "decimals") else {
+        return Ok(());
+    };
+    push_word(text, "unit ")?;
+    push_word(text, unit)?;
+    push_count(text, decimals)?;
+    push_word(text, "\n")
+}
+
+fn fifths_of(alloc: Global, digest: &[u8; 64]) -> Result<Vec<u8>, AllocError>
+    ensures { IfOk result (λ text. text.items ≡ fifths_words digest.now 12) }
+{
+    let mut text = Vec::new(alloc);
+    for at in 0..FIFTHS {
+        push_fifth(&mut text, digest, at)?;
+    }
+    Ok(text)
+}
+
+// Appends the last five digits of five bytes as a number.
+fn push_fifth(text: &mut Vec<u8>, digest: &[u8; 64], at: usize) -> Result<(), AllocError>
+    requires { at < 12 }
+    ensures { OnOk result (text.new.items ≡ text.old.items ++ fifth_words digest.now at) }
+{
+    let from = 5 * at;
+    let number = u64::from_be_bytes([
+        0,
+        0,
+        0,
+        digest[from],
+        digest[from + 1],
+        digest[from + 2],
+        digest[from + 3],
+        digest[from + 4],
+    ]);
+    text.extend_from_slice(&[
+        b' ',
+        digit_of(number / 10_000),
+        digit_of(number / 1_000),
+        digit_of(number / 100),
+        digit_of(number / 10),
+        digit_of(number),
+    ])
+}
+
+fn digit_of(number: u64) -> u8
+    ensures { result ≡ 48 + number % 10 }
+{
+    b'0' + (number % 10) as u8
+}
+
+/// Returns whether `keys` name a group that isn't the group of this `genesis` and these bytes of
+/// `file`.
 // promise: words and files
 pub(crate) fn are_of_two_groups(
     alloc: Global,
@@ -38,7 +221,7 @@ pub(crate) fn are_of_two_groups(
     }
 }
 
-// The first digits of the digest of the group whose file this is.
+// Returns the first digits of the digest of the group of `file`.
 fn digits_of(alloc: Global, genesis: &Genesis, file: &[u8]) -> Result<Option<[u8; 16]>, AllocError>
     ensures { IfOk result (λ digits. digits ≡ digits_of genesis.now file.now) }
 {
@@ -60,7 +243,7 @@ fn first_digits(text: &[u8]) -> [u8; 16]
     digits
 }
 
-// The lines that the keys of the group hang on whose file this is.
+// Returns the lines from which the digest of the group of `file` is made.
 fn group_text(alloc: Global, genesis: &Genesis, file: &Value) -> Result<Option<Vec<u8>>, AllocError>
     ensures { IfOk result (λ text.
         option_map (λ text. text.items) text ≡ group_text genesis.now (view file.now)) }
@@ -147,14 +330,14 @@ fn push_count(text: &mut Vec<u8>, number: u64) -> Result<(), AllocError>
     push_number(text, number)
 }
 
-// The text at this name.
+// Returns the text that `value` has at `name`.
 fn text_at<'a>(value: &'a Value, name: &str) -> Option<&'a str>
     ensures { option_map (λ text. text.now) result ≡ text_named name.now (view value.now) }
 {
     value.get(name).and_then(Value::as_str)
 }
 
-// The texts of the list at this name.
+// Returns the texts of the list that `value` has at `name`.
 fn texts_at<'a>(
     alloc: Global,
     value: &'a Value,

@@ -1,61 +1,40 @@
-//! The program `payd`: its words lead to an engine, and how the engine ended to a status.
+//! The program `payd`: its words lead to a loop, and the loop's end to a status.
 #![tactic(auto)]
 
 ghost use Rattle.std.specs.Prelude.{◌≡◌, IfErr, IfOk, map};
-ghost use Rattle.std.specs.List.{remove};
-ghost use Rattle.std.specs.Option.{option_copied, option_map};
+ghost use Rattle.std.specs.Option.{option_map};
 ghost use Rattle.std.specs.Process.{exit_status};
 ghost use Rattle.pay_link.specs.Keys.{IsKeysOf};
 ghost use Rattle.payd.specs.Files.{IsVerdictOn};
-ghost use Rattle.payd.specs.Statuses.{audit_status, book_status, ended_status};
-ghost use Rattle.payd.specs.Statuses.{send_status, sim_status};
+ghost use Rattle.payd.specs.Statuses.{audit_status, book_status, ended_status, sim_status};
 ghost use Rattle.payd.specs.Texts.{IsAuditStop, IsBookIn, IsBookStop};
 ghost use Rattle.payd.specs.Texts.{IsNoStatementIn, IsStatementIn, form_by};
 
 mod advice;
-mod ahead;
-mod batches;
-mod controls;
-mod copies;
-mod dates;
-mod dials;
 mod figures;
 mod files;
 mod folders;
 mod groups;
-mod holding;
-mod jobs;
-mod keeping;
 mod metrics;
-mod mistakes;
 mod nodes;
-mod patience;
-mod ports;
+mod options;
 mod saying;
-mod sending;
-mod sent;
 mod sockets;
 mod staying;
 mod stop;
 mod texts;
 mod times;
-mod values;
 
-use advice::{Looks, Place, say_advice};
+use advice::{control_in, say_advice, say_mistake};
 use clap::error::ErrorKind;
-use controls::control_in;
-use dates::date_of;
 use files::{NamedFiles, export_of, member_of, member_or_test};
-use jobs::jobs_of;
-use mistakes::say_mistake;
 use nodes::{export, serve_node};
+use options::date_of;
 use pay_audit::Verdict;
-use pay_cli::{Checker, Job, Jobs, NOT_UTF8, job_of, run_check, run_check_by};
+use pay_cli::{Checker, Job, NOT_UTF8, job_of, run_check};
 use pay_desk::{Desk, OneMember, Teller, run_desk};
 use pay_echo::MaskInstance;
-use pay_engine::EngineFault;
-use pay_hmac::PreparedHmac;
-use pay_io::{Reader, StreamFault, Writer, write_text};
+use pay_frame::{EngineFault, Reader, StreamFault, Writer, write_text};
 use pay_journal::journal_text;
 use pay_link::{Genesis, Keys};
 use pay_member::Member;
@@ -63,17 +42,19 @@ use pay_node::OwnMember;
 use pay_pending::WaitingBook;
 use pay_sim::{SimEnd, run_sim};
 use saying::say_place;
-use sending::call;
 use std::alloc::{AllocError, AllocGlobal, Global};
+use std::fs::File;
 use std::process::ExitCode;
 use std::rt::{Env, Files};
-use std::thread::Threads;
 use std::time::Clock;
-use std::{env, io, thread};
+use std::{env, io};
 use stop::Stop;
 use texts::{Findings, book_over, findings_over, form_of, statement_said, verdict_said};
 
 fn main(rt: HostRuntime) -> ExitCode {
+    let Ok(_held) = hold_standard_descriptors(&rt) else {
+        return ExitCode::from(3);
+    };
     let alloc = rt.alloc();
     let words = match words_given(&rt) {
         Ok(words) => words,
@@ -87,35 +68,23 @@ fn main(rt: HostRuntime) -> ExitCode {
             Job::Check {
                 genesis,
                 keys,
-                jobs,
                 tells_values,
             },
-        ) => status_of(&rt, check(alloc, &rt, genesis, keys, jobs, tells_values)),
+        ) => status_of(&rt, check(alloc, &rt, genesis, keys, tells_values)),
         Ok(Job::Desk { genesis, keys }) => status_of(&rt, serve_desk(alloc, &rt, genesis, keys)),
         Ok(Job::Node(words)) => {
-            let place = words.folder.map_or(Place::Nowhere, Place::Write);
-            status_at(&rt, serve_node(alloc, &rt, words), place)
+            let folder = words.folder;
+            status_at(&rt, serve_node(alloc, &rt, words), folder)
         }
-        Ok(Job::Send(words)) => match call(alloc, &rt, words) {
-            Ok((sending, answers)) => match thread::spawn(&rt, move || sending.send(&rt)) {
-                Ok(_) => status_of_send(&rt, answers.write(alloc, &rt)),
-                Err(_) => status_of(&rt, Err(Stop::Engine(EngineFault::Memory))),
-            },
-            Err(stop) => status_of(&rt, Err(stop)),
-        },
         Ok(
             Job::Export {
                 genesis,
                 keys,
                 folder,
             },
-        ) => status_at(
-            &rt,
-            export(alloc, &rt, genesis, keys, folder),
-            Place::Read(folder),
-        ),
-        Ok(Job::Audit { files, jobs, all }) => {
-            status_of_audit(&rt, audit(alloc, &rt, &rt, files.as_slice(), jobs, all))
+        ) => status_at(&rt, export(alloc, &rt, genesis, keys, folder), Some(folder)),
+        Ok(Job::Audit { files, all }) => {
+            status_of_audit(&rt, audit(alloc, &rt, &rt, files.as_slice(), all))
         }
         Ok(
             Job::Book {
@@ -136,7 +105,14 @@ fn main(rt: HostRuntime) -> ExitCode {
     }
 }
 
-/// The words that the program was called with, its name the first of them.
+/// Opens `/dev/null` three times. A closed standard descriptor is open then, so no file or socket
+/// gets its number, and nothing printed on it reaches either.
+fn hold_standard_descriptors(rt: &impl Files<File = File>) -> io::Result<[File; 3]> {
+    let open = || File::options().read(true).write(true).open(rt, "/dev/null");
+    Ok([open()?, open()?, open()?])
+}
+
+/// Returns the words that the program was called with. The first of them is its name.
 fn words_given(rt: &(impl Env + AllocGlobal)) -> io::Result<Vec<String>> {
     let mut given = Vec::new(rt.alloc());
     for word in env::args(rt)? {
@@ -145,53 +121,38 @@ fn words_given(rt: &(impl Env + AllocGlobal)) -> io::Result<Vec<String>> {
     Ok(given)
 }
 
-/// Judges the frames on standard input, once the files are read.
+/// Judges the frames on standard input, after the files are read.
 fn check<'a>(
     alloc: Global,
-    rt: &(impl Files + Input + Print + Threads + Sync),
+    rt: &(impl Files + Input + Print),
     genesis: Option<&'a str>,
     keys: Option<&'a str>,
-    jobs: Option<&'a str>,
     tells_values: bool,
 ) -> Result<(), Stop<'a>> {
-    let jobs = jobs_of(rt, jobs)?;
     let (genesis, keys) = member_or_test(alloc, rt, genesis, keys)?;
     let checker = Checker {
         keys: &keys,
         tells_values,
     };
-    Ok(judge_frames(alloc, rt, jobs, &genesis, &checker)?)
+    Ok(judge_frames(alloc, rt, &genesis, &checker)?)
 }
 
-/// Judges them as whoever checks.
+/// Judges the frames as the member of `checker`.
 fn judge_frames(
     alloc: Global,
-    rt: &(impl Input + Print + Threads + Sync),
-    jobs: usize,
+    rt: &(impl Input + Print),
     genesis: &Genesis,
     checker: &Checker<'_>,
 ) -> Result<(), EngineFault>
     requires { IsKeysOf genesis.now checker.now.keys.now }
 {
-    let tagger = tagger_of(alloc, checker.keys)?;
+    let tagger = checker.keys.tagger(alloc)?;
     let mut reader = Reader::new(rt.reader());
     let mut writer = Writer::new(io::writer(rt));
-    if jobs < 2 {
-        return run_check(alloc, &tagger, genesis, checker, &mut reader, &mut writer);
-    }
-    let jobs = Jobs { rt, count: jobs };
-    run_check_by(
-        jobs,
-        alloc,
-        &tagger,
-        genesis,
-        checker,
-        &mut reader,
-        &mut writer,
-    )
+    run_check(alloc, &tagger, genesis, checker, &mut reader, &mut writer)
 }
 
-/// Answers the lines on standard input, once the files are read. The member meets no peer.
+/// Answers the lines on standard input, after the files are read. The member has no peers.
 fn serve_desk<'a>(
     alloc: Global,
     rt: &(impl Files + Input + Print),
@@ -205,7 +166,7 @@ fn serve_desk<'a>(
     Ok(answer_lines(alloc, rt, teller, accounts, own)?)
 }
 
-/// Answers the lines on standard input, as the desk of this teller.
+/// Answers the lines on standard input, as the desk of this `teller`.
 fn answer_lines<T: Teller + Drop>(
     alloc: Global,
     rt: &(impl Input + Print),
@@ -219,31 +180,30 @@ fn answer_lines<T: Teller + Drop>(
     run_desk(alloc, &mut desk, &mut reader, &mut writer)
 }
 
-/// Says what is wrong with the exports in the files of these names, if anything is; or all that is.
-fn audit<'a, R: Print + Threads + Sync, F: NamedFiles + Sync>(
+/// Prints what is wrong with the exports in the files of these `names`, if anything is, or all that
+/// is wrong.
+fn audit<'a, R: Print, F: NamedFiles>(
     alloc: Global,
     rt: &R,
     files: &F,
     names: &[&'a str],
-    jobs: Option<&'a str>,
     all: bool,
 ) -> Result<Verdict, Stop<'a>>
     ensures verdict { IfOk result (IsVerdictOn (F.holds files.now)
         (map (λ name. name.now) names.now)) }
     ensures stop { IfErr result (IsAuditStop (F.holds files.now)
-        (map (λ name. name.now) names.now) (option_copied jobs.entry)) }
+        (map (λ name. name.now) names.now)) }
 {
-    let jobs = jobs_of(rt, jobs)?;
     let Findings { verdict, text } = if all {
         findings_over(alloc, files, names)?
     } else {
-        verdict_said(rt, jobs, alloc, files, names)?
+        verdict_said(alloc, files, names)?
     };
     print_text(rt, text)?;
     Ok(verdict)
 }
 
-/// Writes the book of the group by the exports in the files of these names, and says whether there
+/// Prints the group ledger of the exports in the files of these `names`, and returns whether there
 /// is one.
 // promise: group's book
 fn book<'a, R: Print, F: NamedFiles>(
@@ -266,7 +226,7 @@ fn book<'a, R: Print, F: NamedFiles>(
     Ok(is_book)
 }
 
-/// Writes the statement of an account, or those of all, by the export in this file.
+/// Prints the statement of an account, or those of all, from the export in this file.
 fn statement<'a>(
     alloc: Global,
     rt: &(impl Files + Print),
@@ -277,7 +237,7 @@ fn statement<'a>(
     Ok(print_text(rt, text)?)
 }
 
-/// The statement of an account, or those of all, by the export in this file.
+/// Returns the statement of an account, or those of all, from the export in this file.
 // promise: statements of exports
 fn statement_in<'a, F: NamedFiles>(
     alloc: Global,
@@ -294,7 +254,7 @@ fn statement_in<'a, F: NamedFiles>(
     statement_said(alloc, &export, account)
 }
 
-/// Writes the journal of the export in this file, on this date or on today's.
+/// Prints the journal of the export in this file, on this date or on today's.
 fn journal<'a>(
     alloc: Global,
     rt: &(impl Files + Print + Clock),
@@ -305,7 +265,7 @@ fn journal<'a>(
     Ok(print_text(rt, text)?)
 }
 
-/// The journal of the export in this file, on this date or on today's.
+/// Returns the journal of the export in this file, on this date or on today's.
 fn journal_in<'a>(
     alloc: Global,
     rt: &(impl Files + Clock),
@@ -317,7 +277,7 @@ fn journal_in<'a>(
     Ok(journal_text(alloc, &export, date)?)
 }
 
-/// Writes a text that is there as a whole.
+/// Prints a text that is in memory as a whole.
 fn print_text(rt: &impl Print, text: Vec<u8>) -> Result<(), StreamFault>
     ensures { IfErr result (λ fault. fault ≡ StreamFault.Write) }
 {
@@ -332,47 +292,34 @@ fn sim(alloc: Global, rt: &(impl Input + Print)) -> Result<SimEnd, StreamFault> 
     run_sim::<MaskInstance, WaitingBook, _, _>(alloc, &mut reader, &mut writer)
 }
 
-/// Tags with the keys of all peers prepared.
-fn tagger_of(alloc: Global, keys: &Keys) -> Result<PreparedHmac, AllocError>
-    ensures { IfOk result (λ tagger. tagger ≡ remove keys.now.keys keys.now.own) }
-{
-    let mut shared = Vec::new(alloc);
-    for member in 0..keys.members() {
-        if keys.is_peer(member) {
-            shared.push(*keys.key(member))?;
-        }
-    }
-    PreparedHmac::new(alloc, shared.as_slice())
-}
-
-/// The status of what is done in no folder.
-fn status_of(rt: &impl Looks, ended: Result<(), Stop>) -> ExitCode
+/// Returns the status of what is done without a folder.
+fn status_of(rt: &impl Eprint, ended: Result<(), Stop>) -> ExitCode
     ensures { exit_status result ≡ ended_status ended.entry }
 {
-    status_at(rt, ended, Place::Nowhere)
+    status_at(rt, ended, None)
 }
 
-/// A fault in the frames has its line already, as has a member that has forgotten; another fault is
-/// named on standard error, with what more can be said of it.
-fn status_at(rt: &impl Looks, ended: Result<(), Stop>, place: Place) -> ExitCode
+/// Returns the status. A fault in the frames and a member that lost state have their lines already.
+/// Another fault is named on standard error, with what more can be said about it.
+fn status_at(rt: &impl Eprint, ended: Result<(), Stop>, folder: Option<&str>) -> ExitCode
     ensures { exit_status result ≡ ended_status ended.entry }
 {
     match ended {
         Ok(()) => ExitCode::SUCCESS,
         Err(stop) => {
-            if !matches!(stop, Stop::Engine(EngineFault::Frame(_)) | Stop::Forgets) {
+            if !matches!(stop, Stop::Engine(EngineFault::Frame(_)) | Stop::Forgets(_)) {
                 let _ = eprintln!(rt; "payd: {stop}");
                 say_place(rt, stop.place());
-                say_advice(rt, &stop, place);
+                say_advice(rt, &stop, folder);
             }
             ExitCode::from(stop.status())
         }
     }
 }
 
-/// An audit that isn't clean has its line already.
+/// Returns the status of an audit. If it isn't clean, it has its line already.
 // promise: statuses
-fn status_of_audit(rt: &impl Looks, ended: Result<Verdict, Stop>) -> ExitCode
+fn status_of_audit(rt: &impl Eprint, ended: Result<Verdict, Stop>) -> ExitCode
     ensures { exit_status result ≡ audit_status ended.entry }
 {
     match ended {
@@ -382,9 +329,9 @@ fn status_of_audit(rt: &impl Looks, ended: Result<Verdict, Stop>) -> ExitCode
     }
 }
 
-/// Where there is no book its line says why.
+/// Returns the status of a group ledger. If there is none, a line says why.
 // promise: statuses
-fn status_of_book(rt: &impl Looks, ended: Result<bool, Stop>) -> ExitCode
+fn status_of_book(rt: &impl Eprint, ended: Result<bool, Stop>) -> ExitCode
     ensures { exit_status result ≡ book_status ended.entry }
 {
     match ended {
@@ -394,20 +341,9 @@ fn status_of_book(rt: &impl Looks, ended: Result<bool, Stop>) -> ExitCode
     }
 }
 
-/// A line that was refused has its answer already.
-// promise: statuses
-fn status_of_send(rt: &impl Looks, ended: Result<bool, Stop>) -> ExitCode
-    ensures { exit_status result ≡ send_status ended.entry }
-{
-    match ended {
-        Ok(false) => ExitCode::SUCCESS,
-        Ok(true) => ExitCode::from(1),
-        Err(stop) => status_of(rt, Err(stop)),
-    }
-}
-
-/// No words can be had where one isn't UTF-8, and where memory ran out.
-fn status_without_words(rt: &impl Looks, error: &io::Error) -> ExitCode {
+/// Returns the status if the program's words aren't available, because one isn't UTF-8 or memory
+/// ran out.
+fn status_without_words(rt: &impl Eprint, error: &io::Error) -> ExitCode {
     if error.kind() == io::ErrorKind::InvalidData {
         say_mistake(rt, NOT_UTF8);
         ExitCode::from(2)
@@ -416,9 +352,9 @@ fn status_without_words(rt: &impl Looks, error: &io::Error) -> ExitCode {
     }
 }
 
-/// Prints what the reading of the words answers in place of a job: help, the version, or a mistake,
-/// which is one also where it can't be printed.
-fn status_of_answer(rt: &(impl Print + Looks), answer: &clap::Error) -> ExitCode {
+/// Prints what the reader of the words answers instead of a job: help, the version, or a mistake. A
+/// mistake is a mistake even if it can't be printed.
+fn status_of_answer(rt: &(impl Print + Eprint + AllocGlobal), answer: &clap::Error) -> ExitCode {
     if answer.kind() == ErrorKind::OutOfMemory {
         return status_of(rt, Err(Stop::Engine(EngineFault::Memory)));
     }
@@ -431,8 +367,8 @@ fn status_of_answer(rt: &(impl Print + Looks), answer: &clap::Error) -> ExitCode
     }
 }
 
-/// Says what is wrong with the words.
-fn status_of_mistake(rt: &impl Looks, mistake: &clap::Error) -> ExitCode {
+/// Prints what is wrong with the words.
+fn status_of_mistake(rt: &(impl Eprint + AllocGlobal), mistake: &clap::Error) -> ExitCode {
     match format!(in rt.alloc(); "{mistake}") {
         Ok(text) => {
             say_mistake(rt, text.as_str());
@@ -442,10 +378,10 @@ fn status_of_mistake(rt: &impl Looks, mistake: &clap::Error) -> ExitCode {
     }
 }
 
-/// A script that ends before its input does has its last line already; a fault is named on standard
-/// error.
+/// Returns the status of a script. If it ends before its input does, it has its last line already.
+/// A fault is named on standard error.
 // promise: statuses
-fn status_of_sim(rt: &impl Looks, ended: Result<SimEnd, StreamFault>) -> ExitCode
+fn status_of_sim(rt: &impl Eprint, ended: Result<SimEnd, StreamFault>) -> ExitCode
     ensures { exit_status result ≡ sim_status ended }
 {
     match ended {

@@ -1,172 +1,53 @@
-//! A node's figures in Prometheus' text format.
+//! A node's metrics in Prometheus' text format.
 
-ghost use Rattle.std.specs.Prelude.{◌≡◌, ◌++◌, IfOk, OnOk, count_by};
-ghost use Rattle.payd.specs.Metrics.{about_words, accounts_words, comment_line, durable_words};
-ghost use Rattle.payd.specs.Metrics.{fronts_words, holding_words, known_words, metric_words};
-ghost use Rattle.payd.specs.Metrics.{is_met_peer, is_lost_peer, metrics_words, own_words};
-ghost use Rattle.payd.specs.Metrics.{each_words, peers_words, program_words, sample_of_peer};
-ghost use Rattle.payd.specs.Metrics.{counts_words, sample_value, sample_words, seen_words};
-ghost use Rattle.payd.specs.Metrics.{standing_words, sums_words, traffic_words};
-ghost use Rattle.payd.specs.Metrics.{used_words, value_of_peer, version_sample, version_words};
-ghost use Rattle.payd.specs.Metrics.{awaits_words, wrongs_words};
+ghost use Rattle.std.specs.Prelude.{◌≡◌, ◌++◌, IfOk, OnOk};
+ghost use Rattle.std.specs.List.{flat_map};
+ghost use Rattle.payd.specs.Metrics.{comment_line, fronts_from, label_words, metric_words};
+ghost use Rattle.payd.specs.Metrics.{metrics_words, sample_if, sample_line, sample_of_peer};
+ghost use Rattle.payd.specs.Metrics.{samples_of, type_of, value_of_peer};
 
 use pay_frame::SEQS;
-use pay_net::{MemberFigures, NodeFigures, PeerFigures};
+use pay_net::{NodeFigures, PeerFigures};
 use pay_text::{push_number, push_word};
 use std::alloc::{AllocError, Global};
 
-/// What the program, the system and the input of a node's desk tell of it.
+/// The metrics that come from the program, the system and the input of a node's desk.
 #[derive(Clone, Copy)]
 pub(crate) struct OwnFigures {
     pub(crate) version: &'static str,
-    /// When it started, in seconds since 1970.
+    /// The node's start, in seconds since 1970.
     pub(crate) started_seconds: Option<u64>,
     pub(crate) log_bytes: Option<u64>,
     pub(crate) resident_bytes: Option<u64>,
     pub(crate) reads_left: u64,
 }
 
-/// A figure's name, whether it only grows, and what it says.
 #[derive(Clone, Copy)]
-struct Metric {
-    name: &'static str,
-    kind: &'static str,
-    help: &'static str,
+enum Figure {
+    /// A metric of each peer.
+    Peer(OfPeer),
+    /// The settled entries of each account.
+    SettledEntries,
+    /// The program's version, which is a label.
+    Build,
+    PeersMet,
+    PeersLost,
+    Balance,
+    SentFrames,
+    HistoryEntries,
+    ValuesUsed,
+    ValuesLeft,
+    WaitingEntries,
+    WaitingShort,
+    DurableEntries,
+    LogBytes,
+    ResidentBytes,
+    ReadsLeft,
+    StartTime,
 }
 
-const GAUGE: &str = "gauge";
-
-const COUNTER: &str = "counter";
-
-const PEERS_MET: Metric = Metric {
-    name: "payd_peers_met",
-    kind: GAUGE,
-    help: "Peers that are met.",
-};
-
-const PEERS_LOST: Metric = Metric {
-    name: "payd_peers_lost",
-    kind: GAUGE,
-    help: "Peers that were met and are not now, or were given up.",
-};
-
-const PEER_MET: Metric = Metric {
-    name: "payd_peer_met",
-    kind: GAUGE,
-    help: "Whether a peer is met.",
-};
-
-const PEER_UNOPENED: Metric = Metric {
-    name: "payd_peer_unopened",
-    kind: GAUGE,
-    help: "Whether a frame in a peer's name did not open.",
-};
-
-const PEER_LIED: Metric = Metric {
-    name: "payd_peer_lied",
-    kind: GAUGE,
-    help: "Whether a peer told a lie, so that nothing more is read from it.",
-};
-
-const PEER_SILENT: Metric = Metric {
-    name: "payd_peer_silent_seconds",
-    kind: GAUGE,
-    help: "Seconds since a frame of a peer came.",
-};
-
-const PEER_ASKED: Metric = Metric {
-    name: "payd_peer_asked_frames_total",
-    kind: COUNTER,
-    help: "Frames that a peer asked for.",
-};
-
-const SENT_FRAMES: Metric = Metric {
-    name: "payd_sent_frames_total",
-    kind: COUNTER,
-    help: "Frames that there are for each peer.",
-};
-
-const SETTLED_ENTRIES: Metric = Metric {
-    name: "payd_settled_entries_total",
-    kind: COUNTER,
-    help: "Settled entries of an account, which is its front.",
-};
-
-const BALANCE: Metric = Metric {
-    name: "payd_balance",
-    kind: GAUGE,
-    help: "Balance of the node's own account.",
-};
-
-const VALUES_USED: Metric = Metric {
-    name: "payd_values_used",
-    kind: GAUGE,
-    help: "Values of the own account that are used.",
-};
-
-const VALUES_LEFT: Metric = Metric {
-    name: "payd_values_left",
-    kind: GAUGE,
-    help: "Values of the own account that are left.",
-};
-
-const WAITING: Metric = Metric {
-    name: "payd_waiting_entries",
-    kind: GAUGE,
-    help: "Entries of the own account that wait, 1000 at most.",
-};
-
-const SHORT: Metric = Metric {
-    name: "payd_waiting_short",
-    kind: GAUGE,
-    help: "What the own balance lacks of the first entry that waits.",
-};
-
-const HISTORY_ENTRIES: Metric = Metric {
-    name: "payd_history_entries_total",
-    kind: COUNTER,
-    help: "Entries of the member's history.",
-};
-
-const DURABLE_ENTRIES: Metric = Metric {
-    name: "payd_history_durable_entries_total",
-    kind: COUNTER,
-    help: "Entries of the member's history that are on the disk.",
-};
-
-const LOG_BYTES: Metric = Metric {
-    name: "payd_log_bytes",
-    kind: GAUGE,
-    help: "Size of the log in the node's folder.",
-};
-
-const RESIDENT_BYTES: Metric = Metric {
-    name: "payd_resident_memory_bytes",
-    kind: GAUGE,
-    help: "Resident memory of the process.",
-};
-
-const READS_LEFT: Metric = Metric {
-    name: "payd_input_reads_left",
-    kind: GAUGE,
-    help: "Reads of the desk's input before the node ends for their number.",
-};
-
-const START_TIME: Metric = Metric {
-    name: "payd_start_time_seconds",
-    kind: GAUGE,
-    help: "When the node started, in seconds since 1970.",
-};
-
-const BUILD: Metric = Metric {
-    name: "payd_build_info",
-    kind: GAUGE,
-    help: "The version of the program that runs.",
-};
-
-/// Which figure of a peer.
 #[derive(Clone, Copy)]
-enum PeerMetric {
+enum OfPeer {
     Met,
     Unopened,
     Lied,
@@ -174,258 +55,265 @@ enum PeerMetric {
     AskedFrames,
 }
 
-impl PeerMetric {
-    fn value(self, peer: &PeerFigures) -> Option<u64>
-        ensures { result ≡ value_of_peer self peer.now }
-    {
-        match self {
-            PeerMetric::Met => Some(u64::from(peer.is_met())),
-            PeerMetric::Unopened => Some(u64::from(peer.mistrusted)),
-            PeerMetric::Lied => Some(u64::from(peer.has_lied())),
-            PeerMetric::SilentSeconds => peer.silent_seconds,
-            PeerMetric::AskedFrames => Some(peer.asked),
-        }
-    }
+/// All metrics, in their order: what each shows, its name after `payd_`, and its help. A name that
+/// ends in `_total` belongs to a counter.
+const METRICS: [(Figure, &str, &str); 21] = [
+    (Figure::PeersMet, "peers_met", "Peers that are met."),
+    (
+        Figure::PeersLost,
+        "peers_lost",
+        "Peers that were met and are not now, or were given up.",
+    ),
+    (
+        Figure::Peer(OfPeer::Met),
+        "peer_met",
+        "Whether a peer is met.",
+    ),
+    (
+        Figure::Peer(OfPeer::Unopened),
+        "peer_unopened",
+        "Whether a frame in its name did not open.",
+    ),
+    (
+        Figure::Peer(OfPeer::Lied),
+        "peer_lied",
+        "Whether it lied: nothing more is read from it.",
+    ),
+    (
+        Figure::Peer(OfPeer::SilentSeconds),
+        "peer_silent_seconds",
+        "Seconds since its last frame.",
+    ),
+    (
+        Figure::Peer(OfPeer::AskedFrames),
+        "peer_asked_frames_total",
+        "Frames that it asked for.",
+    ),
+    (
+        Figure::SettledEntries,
+        "settled_entries_total",
+        "Settled entries of an account: its front.",
+    ),
+    (
+        Figure::Balance,
+        "balance",
+        "Balance of the node's own account.",
+    ),
+    (
+        Figure::SentFrames,
+        "sent_frames_total",
+        "Frames that there are for each peer.",
+    ),
+    (
+        Figure::HistoryEntries,
+        "history_entries_total",
+        "Entries of the member's history.",
+    ),
+    (
+        Figure::ValuesUsed,
+        "values_used",
+        "Values of the own account that are used.",
+    ),
+    (
+        Figure::ValuesLeft,
+        "values_left",
+        "Values of the own account that are left.",
+    ),
+    (
+        Figure::WaitingEntries,
+        "waiting_entries",
+        "Own entries that wait, 1000 at most.",
+    ),
+    (
+        Figure::WaitingShort,
+        "waiting_short",
+        "What the balance lacks of the first that waits.",
+    ),
+    (
+        Figure::DurableEntries,
+        "history_durable_entries_total",
+        "History entries on the disk.",
+    ),
+    (
+        Figure::LogBytes,
+        "log_bytes",
+        "Size of the log in the node's folder.",
+    ),
+    (
+        Figure::ResidentBytes,
+        "resident_memory_bytes",
+        "Resident memory of the process.",
+    ),
+    (
+        Figure::ReadsLeft,
+        "input_reads_left",
+        "Reads of the desk's input that are left.",
+    ),
+    (
+        Figure::StartTime,
+        "start_time_seconds",
+        "When the node started, in seconds since 1970.",
+    ),
+    (
+        Figure::Build,
+        "build_info",
+        "The version of the program that runs.",
+    ),
+];
+
+/// What distinguishes the values of a metric.
+#[derive(Clone, Copy)]
+enum Label {
+    Nothing,
+    Peer(u16),
+    Account(u64),
+    Version(&'static str),
 }
 
-/// The text of a node's figures. What isn't known is left out.
+#[derive(Clone, Copy)]
+struct Sample {
+    label: Label,
+    value: u64,
+}
+
+/// Returns the text of all metrics, without those that have no value.
 // promise: figures
 pub(crate) fn metrics_text(
     alloc: Global,
-    figures: &NodeFigures,
+    node: &NodeFigures,
     own: &OwnFigures,
 ) -> Result<Vec<u8>, AllocError>
-    ensures { IfOk result (λ text. text.items ≡ metrics_words figures.now own.now) }
+    ensures { IfOk result (λ text. text.items ≡ metrics_words node.now own.now) }
 {
     let mut text = Vec::new(alloc);
-    push_peers(&mut text, figures)?;
-    push_fronts(&mut text, &figures.member)?;
-    push_member(&mut text, &figures.member)?;
-    push_values(&mut text, figures.member.used)?;
-    push_waiting(&mut text, &figures.member)?;
-    push_durable(&mut text, figures.durable)?;
-    push_own(&mut text, *own)?;
-    push_program(&mut text, *own)?;
+    for (figure, name, help) in METRICS.iter() {
+        let samples = samples_of(alloc, *figure, node, own)?;
+        push_metric(&mut text, name, help, samples.as_slice())?;
+    }
     Ok(text)
 }
 
-fn push_peers(text: &mut Vec<u8>, figures: &NodeFigures) -> Result<(), AllocError>
-    ensures { OnOk result (text.new.items
-        ≡ text.old.items ++ peers_words figures.now.peers.items) }
+/// Returns the values of `figure` that are known.
+fn samples_of(
+    alloc: Global,
+    figure: Figure,
+    node: &NodeFigures,
+    own: &OwnFigures,
+) -> Result<Vec<Sample>, AllocError>
+    ensures { IfOk result (λ samples. samples.items ≡ samples_of node.now own.now figure) }
 {
-    let peers = figures.peers.as_slice();
-    push_sums(text, peers)?;
-    push_seen(text, peers)
+    let (peers, member) = (node.peers.as_slice(), &node.member);
+    let value = match figure {
+        Figure::Peer(of) => return samples_of_peers(alloc, of, peers),
+        Figure::SettledEntries => return samples_of_fronts(alloc, member.fronts.as_slice()),
+        Figure::Build => return sample_if(alloc, Label::Version(own.version), Some(1)),
+        Figure::PeersMet => Some(peers.iter().filter(|peer| peer.is_met()).count() as u64),
+        Figure::PeersLost => Some(peers.iter().filter(|peer| peer.is_lost()).count() as u64),
+        Figure::Balance => Some(member.balance),
+        Figure::SentFrames => Some(member.sent),
+        Figure::HistoryEntries => Some(member.entries as u64),
+        Figure::ValuesUsed => Some(u64::from(member.used)),
+        Figure::ValuesLeft => Some(u64::from(SEQS.saturating_sub(member.used))),
+        Figure::WaitingEntries => Some(member.waiting as u64),
+        Figure::WaitingShort => Some(member.short),
+        Figure::DurableEntries => node.durable.map(|entries| entries as u64),
+        Figure::LogBytes => own.log_bytes,
+        Figure::ResidentBytes => own.resident_bytes,
+        Figure::ReadsLeft => Some(own.reads_left),
+        Figure::StartTime => own.started_seconds,
+    };
+    sample_if(alloc, Label::Nothing, value)
 }
 
-// How many peers are met, and how many are lost.
-fn push_sums(text: &mut Vec<u8>, peers: &[PeerFigures]) -> Result<(), AllocError>
-    ensures { OnOk result (text.new.items ≡ text.old.items ++ sums_words peers.now) }
+/// Returns the sample of `value`, if it is known.
+fn sample_if(alloc: Global, label: Label, value: Option<u64>) -> Result<Vec<Sample>, AllocError>
+    ensures { IfOk result (λ samples. samples.items ≡ sample_if label value) }
 {
-    push_metric(text, PEERS_MET, count_met(peers))?;
-    push_metric(text, PEERS_LOST, count_lost(peers))
-}
-
-fn count_met(peers: &[PeerFigures]) -> u64
-    ensures { result ≡ count_by is_met_peer peers.now }
-{
-    peers.iter().filter(|peer| peer.is_met()).count() as u64
-}
-
-fn count_lost(peers: &[PeerFigures]) -> u64
-    ensures { result ≡ count_by is_lost_peer peers.now }
-{
-    peers.iter().filter(|peer| peer.is_lost()).count() as u64
-}
-
-// What is known of each peer.
-fn push_seen(text: &mut Vec<u8>, peers: &[PeerFigures]) -> Result<(), AllocError>
-    ensures { OnOk result (text.new.items ≡ text.old.items ++ seen_words peers.now) }
-{
-    push_standing(text, peers)?;
-    push_traffic(text, peers)
-}
-
-// Whether each peer is met, and what is wrong with it.
-fn push_standing(text: &mut Vec<u8>, peers: &[PeerFigures]) -> Result<(), AllocError>
-    ensures { OnOk result (text.new.items ≡ text.old.items ++ standing_words peers.now) }
-{
-    push_each(text, PEER_MET, PeerMetric::Met, peers)?;
-    push_wrongs(text, peers)
-}
-
-// Whether frames in each peer's name open, and whether it lied.
-fn push_wrongs(text: &mut Vec<u8>, peers: &[PeerFigures]) -> Result<(), AllocError>
-    ensures { OnOk result (text.new.items ≡ text.old.items ++ wrongs_words peers.now) }
-{
-    push_each(text, PEER_UNOPENED, PeerMetric::Unopened, peers)?;
-    push_each(text, PEER_LIED, PeerMetric::Lied, peers)
-}
-
-// For how long nothing came of each peer, and what it asked for.
-fn push_traffic(text: &mut Vec<u8>, peers: &[PeerFigures]) -> Result<(), AllocError>
-    ensures { OnOk result (text.new.items ≡ text.old.items ++ traffic_words peers.now) }
-{
-    push_each(text, PEER_SILENT, PeerMetric::SilentSeconds, peers)?;
-    push_each(text, PEER_ASKED, PeerMetric::AskedFrames, peers)
-}
-
-// What a figure is, and its value for each peer of which it is known.
-fn push_each(
-    text: &mut Vec<u8>,
-    metric: Metric,
-    of: PeerMetric,
-    peers: &[PeerFigures],
-) -> Result<(), AllocError>
-    ensures { OnOk result (text.new.items ≡ text.old.items
-        ++ each_words metric.name.now metric.kind.now metric.help.now of peers.now) }
-{
-    push_about(text, metric)?;
-    for peer in peers {
-        push_sample_of(text, metric.name, of, peer)?;
+    let mut samples = Vec::new(alloc);
+    if let Some(value) = value {
+        samples.push(Sample { label, value })?;
     }
-    Ok(())
+    Ok(samples)
 }
 
-fn push_sample_of(
+/// Returns a sample of each peer with a known value.
+fn samples_of_peers(
+    alloc: Global,
+    figure: OfPeer,
+    peers: &[PeerFigures],
+) -> Result<Vec<Sample>, AllocError>
+    ensures { IfOk result (λ samples.
+        samples.items ≡ flat_map (sample_of_peer figure) peers.now) }
+{
+    let mut samples = Vec::new(alloc);
+    for peer in peers {
+        if let Some(value) = value_of_peer(figure, peer) {
+            let label = Label::Peer(peer.peer);
+            samples.push(Sample { label, value })?;
+        }
+    }
+    Ok(samples)
+}
+
+fn value_of_peer(figure: OfPeer, peer: &PeerFigures) -> Option<u64>
+    ensures { result ≡ value_of_peer figure peer.now }
+{
+    match figure {
+        OfPeer::Met => Some(u64::from(peer.is_met())),
+        OfPeer::Unopened => Some(u64::from(peer.mistrusted)),
+        OfPeer::Lied => Some(u64::from(peer.has_lied())),
+        OfPeer::SilentSeconds => peer.silent_seconds,
+        OfPeer::AskedFrames => Some(peer.asked),
+    }
+}
+
+/// Returns a sample of each account, its front.
+fn samples_of_fronts(alloc: Global, fronts: &[u32]) -> Result<Vec<Sample>, AllocError>
+    ensures { IfOk result (λ samples. samples.items ≡ fronts_from 0 fronts.now) }
+{
+    let mut samples = Vec::new(alloc);
+    for (account, front) in fronts.iter().enumerate() {
+        let label = Label::Account(account as u64);
+        let value = u64::from(*front);
+        samples.push(Sample { label, value })?;
+    }
+    Ok(samples)
+}
+
+/// Appends the comments and the samples of a metric, if it has samples.
+fn push_metric(
     text: &mut Vec<u8>,
     name: &str,
-    of: PeerMetric,
-    peer: &PeerFigures,
+    help: &str,
+    samples: &[Sample],
 ) -> Result<(), AllocError>
-    ensures { OnOk result (text.new.items ≡ text.old.items
-        ++ sample_of_peer name.now of peer.now) }
-{
-    match of.value(peer) {
-        Some(value) => push_sample(text, name, "{peer=\"", u64::from(peer.peer), value),
-        None => Ok(()),
-    }
-}
-
-fn push_fronts(text: &mut Vec<u8>, member: &MemberFigures) -> Result<(), AllocError>
     ensures { OnOk result (text.new.items
-        ≡ text.old.items ++ fronts_words member.now.fronts.items) }
+        ≡ text.old.items ++ metric_words name.now help.now samples.now) }
 {
-    push_accounts(text, SETTLED_ENTRIES, member.fronts.as_slice())
-}
-
-fn push_member(text: &mut Vec<u8>, member: &MemberFigures) -> Result<(), AllocError>
-    ensures { OnOk result (text.new.items ≡ text.old.items ++ holding_words member.now) }
-{
-    push_metric(text, BALANCE, member.balance)?;
-    push_counts(text, member)
-}
-
-// How many frames there are, and how many entries.
-fn push_counts(text: &mut Vec<u8>, member: &MemberFigures) -> Result<(), AllocError>
-    ensures { OnOk result (text.new.items ≡ text.old.items ++ counts_words member.now) }
-{
-    push_metric(text, SENT_FRAMES, member.sent)?;
-    push_metric(text, HISTORY_ENTRIES, member.entries as u64)
-}
-
-fn push_values(text: &mut Vec<u8>, used: u32) -> Result<(), AllocError>
-    ensures { OnOk result (text.new.items ≡ text.old.items ++ used_words used) }
-{
-    push_metric(text, VALUES_USED, u64::from(used))?;
-    push_metric(text, VALUES_LEFT, u64::from(SEQS.saturating_sub(used)))
-}
-
-fn push_waiting(text: &mut Vec<u8>, member: &MemberFigures) -> Result<(), AllocError>
-    ensures { OnOk result (text.new.items ≡ text.old.items ++ awaits_words member.now) }
-{
-    push_metric(text, WAITING, member.waiting as u64)?;
-    push_metric(text, SHORT, member.short)
-}
-
-fn push_own(text: &mut Vec<u8>, own: OwnFigures) -> Result<(), AllocError>
-    ensures { OnOk result (text.new.items ≡ text.old.items ++ own_words own) }
-{
-    push_known(text, LOG_BYTES, own.log_bytes)?;
-    push_known(text, RESIDENT_BYTES, own.resident_bytes)?;
-    push_metric(text, READS_LEFT, own.reads_left)
-}
-
-fn push_program(text: &mut Vec<u8>, own: OwnFigures) -> Result<(), AllocError>
-    ensures { OnOk result (text.new.items ≡ text.old.items ++ program_words own) }
-{
-    push_known(text, START_TIME, own.started_seconds)?;
-    push_version(text, own.version)
-}
-
-fn push_version(text: &mut Vec<u8>, version: &str) -> Result<(), AllocError>
-    ensures { OnOk result (text.new.items ≡ text.old.items ++ version_words version.now) }
-{
-    push_about(text, BUILD)?;
-    push_version_sample(text, BUILD.name, version)
-}
-
-fn push_version_sample(text: &mut Vec<u8>, name: &str, version: &str) -> Result<(), AllocError>
-    ensures { OnOk result (text.new.items
-        ≡ text.old.items ++ version_sample name.now version.now) }
-{
-    push_word(text, name)?;
-    push_word(text, "{version=\"")?;
-    push_word(text, version)?;
-    push_word(text, "\"}")?;
-    push_value(text, 1)
-}
-
-fn push_durable(text: &mut Vec<u8>, entries: Option<usize>) -> Result<(), AllocError>
-    ensures { OnOk result (text.new.items ≡ text.old.items ++ durable_words entries) }
-{
-    match entries {
-        Some(entries) => push_metric(text, DURABLE_ENTRIES, entries as u64),
-        None => Ok(()),
+    if samples.is_empty() {
+        return Ok(());
     }
-}
-
-// What a figure is, and its one value.
-fn push_metric(text: &mut Vec<u8>, metric: Metric, value: u64) -> Result<(), AllocError>
-    ensures { OnOk result (text.new.items ≡ text.old.items
-        ++ metric_words metric.name.now metric.kind.now metric.help.now value) }
-{
-    push_about(text, metric)?;
-    push_word(text, metric.name)?;
-    push_value(text, value)
-}
-
-// The same, if the value is known.
-fn push_known(text: &mut Vec<u8>, metric: Metric, value: Option<u64>) -> Result<(), AllocError>
-    ensures { OnOk result (text.new.items ≡ text.old.items
-        ++ known_words metric.name.now metric.kind.now metric.help.now value) }
-{
-    match value {
-        Some(value) => push_metric(text, metric, value),
-        None => Ok(()),
-    }
-}
-
-// What a figure is, and its value for each account.
-fn push_accounts(text: &mut Vec<u8>, metric: Metric, values: &[u32]) -> Result<(), AllocError>
-    ensures { OnOk result (text.new.items ≡ text.old.items
-        ++ accounts_words metric.name.now metric.kind.now metric.help.now values.now) }
-{
-    push_about(text, metric)?;
-    for (account, value) in values.iter().enumerate() {
-        let account = account as u64;
-        push_sample(text, metric.name, "{account=\"", account, u64::from(*value))?;
+    push_comment(text, "# HELP payd_", name, help)?;
+    push_comment(text, "# TYPE payd_", name, type_of(name))?;
+    for sample in samples {
+        push_sample(text, name, *sample)?;
     }
     Ok(())
 }
 
-fn push_about(text: &mut Vec<u8>, metric: Metric) -> Result<(), AllocError>
-    ensures { OnOk result (text.new.items ≡ text.old.items
-        ++ about_words metric.name.now metric.kind.now metric.help.now) }
+fn type_of(name: &str) -> &'static str
+    ensures { result.now ≡ type_of name.now }
 {
-    let Metric { name, kind, help } = metric;
-    push_line(text, "# HELP ", name, help)?;
-    push_line(text, "# TYPE ", name, kind)
+    if name.as_bytes().ends_with(b"_total") {
+        "counter"
+    } else {
+        "gauge"
+    }
 }
 
-fn push_line(text: &mut Vec<u8>, mark: &str, name: &str, said: &str) -> Result<(), AllocError>
-    ensures { OnOk result (text.new.items ≡ text.old.items
-        ++ comment_line mark.now name.now said.now) }
+fn push_comment(text: &mut Vec<u8>, mark: &str, name: &str, said: &str) -> Result<(), AllocError>
+    ensures { OnOk result (text.new.items
+        ≡ text.old.items ++ comment_line mark.now name.now said.now) }
 {
     push_word(text, mark)?;
     push_word(text, name)?;
@@ -434,28 +322,35 @@ fn push_line(text: &mut Vec<u8>, mark: &str, name: &str, said: &str) -> Result<(
     push_word(text, "\n")
 }
 
-// Behind its label up to its value, which is a number.
-fn push_sample(
-    text: &mut Vec<u8>,
-    name: &str,
-    label: &str,
-    number: u64,
-    value: u64,
-) -> Result<(), AllocError>
-    ensures { OnOk result (text.new.items ≡ text.old.items
-        ++ sample_words name.now label.now number value) }
+/// Appends the line of a sample, such as `payd_peer_met{peer="1"} 1`.
+fn push_sample(text: &mut Vec<u8>, name: &str, sample: Sample) -> Result<(), AllocError>
+    ensures { OnOk result (text.new.items ≡ text.old.items ++ sample_line name.now sample) }
 {
+    push_word(text, "payd_")?;
     push_word(text, name)?;
-    push_word(text, label)?;
-    push_number(text, number)?;
-    push_word(text, "\"}")?;
-    push_value(text, value)
+    push_label(text, sample.label)?;
+    push_word(text, " ")?;
+    push_number(text, sample.value)?;
+    push_word(text, "\n")
 }
 
-fn push_value(text: &mut Vec<u8>, value: u64) -> Result<(), AllocError>
-    ensures { OnOk result (text.new.items ≡ text.old.items ++ sample_value value) }
+fn push_label(text: &mut Vec<u8>, label: Label) -> Result<(), AllocError>
+    ensures { OnOk result (text.new.items ≡ text.old.items ++ label_words label) }
 {
-    push_word(text, " ")?;
-    push_number(text, value)?;
-    push_word(text, "\n")
+    match label {
+        Label::Nothing => return Ok(()),
+        Label::Peer(peer) => {
+            push_word(text, "{peer=\"")?;
+            push_number(text, u64::from(peer))?;
+        }
+        Label::Account(account) => {
+            push_word(text, "{account=\"")?;
+            push_number(text, account)?;
+        }
+        Label::Version(version) => {
+            push_word(text, "{version=\"")?;
+            push_word(text, version)?;
+        }
+    }
+    push_word(text, "\"}")
 }

@@ -1,58 +1,178 @@
-//! What is said of a node: of its member, and of its peers.
+//! What is printed about a node: about its member, its log, and its peers.
 
-ghost use Rattle.std.specs.Prelude.{◌≡◌, length};
+ghost use Rattle.std.specs.Prelude.{IsTrue, ◌≡◌, length};
+ghost use Rattle.pay_durable.specs.Kept.{AreDurable, IsHistoryKept};
 ghost use Rattle.payd.specs.Saying.{is_about_another, kind_words};
+ghost use Rattle.payd.specs.Starts.{rollback_fault};
 
-use crate::advice::say_log_advice;
-use crate::figures::FiguresFile;
+use crate::advice::{has_control, say_log_advice};
+use crate::figures::{FiguresFile, ValuesWatch};
 use crate::folders::FoundAs;
+use crate::groups::Called;
 use crate::times::TimesFile;
-use crate::values::ValuesWatch;
+use pay_durable::{Keeper, Kept};
 use pay_frame::Kind;
 use pay_link::{Genesis, Keys};
-use pay_log::LogFault;
+use pay_log::{Device, LogFault, LogLock};
 use pay_member::Lie;
 use pay_net::{News, NodeFigures, Ports, Watcher};
-use pay_node::OwnMember;
+use pay_node::{Beginning, Node, OwnMember};
 use pay_peers::Observer;
 use pay_record::log_header;
 use std::alloc::{AllocError, Global};
 use std::fmt;
 use std::fs::File;
 use std::rt::Files;
-use std::sync::atomic::{AtomicBool, Ordering};
+use std::sync::Wait;
+use std::sync::atomic::{AtomicBool, AtomicUsize, Ordering};
 use std::time::Clock;
 
-/// What is said of a member that no folder keeps.
+/// The folder with a log's name, and the lock of that log.
+#[derive(Clone, Copy)]
+pub(crate) struct NamedLog<'a> {
+    pub(crate) folder: &'a str,
+    pub(crate) lock: &'a LogLock,
+}
+
+/// A log that follows a node's history. It reports once on standard error that it failed, or that
+/// it no longer has its name. Nothing is kept from then on.
+#[derive(Drop)]
+pub(crate) struct SayingKept<'a, H, D: Device + Drop> {
+    rt: &'a H,
+    alloc: Global,
+    kept: Kept<D>,
+    log: NamedLog<'a>,
+    has_failed: &'a AtomicBool,
+    /// The count of entries that the log had when it had its name last.
+    named: AtomicUsize,
+    is_unnamed: AtomicBool,
+}
+
+impl<'a, H, D: Device + Drop> SayingKept<'a, H, D> {
+    /// Creates a log that reports failures, before any failure.
+    pub(crate) fn new(
+        rt: &'a H,
+        alloc: Global,
+        kept: Kept<D>,
+        log: NamedLog<'a>,
+        has_failed: &'a AtomicBool,
+    ) -> SayingKept<'a, H, D> {
+        SayingKept {
+            rt,
+            alloc,
+            kept,
+            log,
+            has_failed,
+            named: AtomicUsize::new(0),
+            is_unnamed: AtomicBool::new(false),
+        }
+    }
+
+    /// Returns why nothing is kept any more, if that is so.
+    pub(crate) fn failure<R: Wait>(&self, rt: &R) -> Option<LogFault> {
+        if self.is_unnamed.load(Ordering::SeqCst) {
+            return Some(LogFault::Unnamed);
+        }
+        self.kept.failure(rt).map(LogFault::Disk)
+    }
+}
+
+impl<H: Files + Eprint, D: Device + Drop> SayingKept<'_, H, D> {
+    // Returns whether a log that has grown still has its name. If there is no memory to test it,
+    // the next call does.
+    fn has_name<R: Wait>(&self, rt: &R) -> bool {
+        if self.is_unnamed.load(Ordering::SeqCst) {
+            return false;
+        }
+        let Some(entries) = self.kept.durable(rt) else {
+            return true;
+        };
+        if entries <= self.named.load(Ordering::SeqCst) {
+            return true;
+        }
+        match self.log.lock.has_name(self.rt, self.alloc, self.log.folder) {
+            Ok(true) => {
+                self.named.fetch_max(entries, Ordering::SeqCst);
+                true
+            }
+            Ok(false) => {
+                self.is_unnamed.store(true, Ordering::SeqCst);
+                false
+            }
+            Err(_) => true,
+        }
+    }
+
+    // Prints why nothing is kept any more, if that wasn't printed before.
+    fn say_failure<R: Wait>(&self, rt: &R) {
+        if let Some(fault) = self.failure(rt) {
+            if !self.has_failed.swap(true, Ordering::SeqCst) {
+                let _ = eprintln!(self.rt; "payd: log {fault}");
+            }
+        }
+    }
+}
+
+impl<H: Files + Eprint, D: Device + Drop> Keeper for SayingKept<'_, H, D> {
+    ghost kept = { λ _ node. IsHistoryKept D.is_known D.seen D.may_leave node };
+
+    ghost has = { λ _ entries. AreDurable D.is_known D.seen D.may_leave entries };
+
+    fn keep<R: Wait, S: Beginning>(&self, rt: &R, node: &Node<S>) -> bool {
+        if self.kept.keep(rt, node) && self.has_name(rt) {
+            return true;
+        }
+        self.say_failure(rt);
+        false
+    }
+
+    fn has_entries<R: Wait>(&self, rt: &R, entries: usize) -> bool {
+        self.kept.has_entries(rt, entries) && self.has_name(rt)
+    }
+
+    fn order<R: Wait>(&self, rt: &R, seq: u32, id: u64) -> Result<(), AllocError> {
+        self.kept.order(rt, seq, id)
+    }
+
+    fn durable<R: Wait>(&self, rt: &R) -> Option<usize> {
+        self.kept.durable(rt)
+    }
+}
+
+/// The line about a member that no folder keeps.
 const IN_MEMORY: &str =
     "without --data the member lives in memory alone: what ends the node before its input does \
 loses its account";
 
 const STARVED: &str = "memory was refused for 5 seconds on end";
 
-/// Says on standard error what becomes of a node's peers, a line each time, that its member has
-/// forgotten what it sent, and that memory stays refused, and has its figures and times written.
+/// A printer of a node's peer events on standard error, a line each. It also prints that the node's
+/// member has lost state, and that the node is out of memory. It has the node's metrics and times
+/// written.
 #[derive(Drop)]
 pub(crate) struct Saying<'a, R> {
     pub(crate) rt: &'a R,
+    pub(crate) called: &'a Called,
     pub(crate) figures: Option<FiguresFile<'a, R>>,
     pub(crate) times: Option<TimesFile<'a, R>>,
     pub(crate) values: ValuesWatch<'a, R>,
-    /// Whether the member has forgotten.
+    /// What is reported if the member has lost state.
+    pub(crate) rollback: LogFault,
+    /// True if the member has lost state.
     pub(crate) forgets: &'a AtomicBool,
-    /// Whether memory stays refused, in a node that may end then.
+    /// True if the node is out of memory, in a node that may end then.
     pub(crate) starves: Option<&'a AtomicBool>,
 }
 
 impl<R: Files> Saying<'_, R> {
-    /// The node has ended: its figures are nobody's any more.
+    /// Removes the metrics after the node has ended.
     pub(crate) fn leave(&self) {
         if let Some(figures) = &self.figures {
             figures.remove();
         }
     }
 
-    /// Whether memory stays refused, in a node that may end then.
+    /// Returns whether the node is out of memory, in a node that may end then.
     pub(crate) fn has_starved(&self) -> bool {
         match self.starves {
             Some(starves) => starves.load(Ordering::SeqCst),
@@ -80,7 +200,7 @@ impl<R: Files<File = File> + Eprint + Clock> Watcher for Saying<'_, R> {
     }
 
     fn forgets(&self) {
-        let fault = LogFault::Forgotten;
+        let fault = self.rollback;
         let _ = eprintln!(self.rt; "payd: log {fault}");
         say_log_advice(self.rt, fault);
         self.forgets.store(true, Ordering::SeqCst);
@@ -88,38 +208,72 @@ impl<R: Files<File = File> + Eprint + Clock> Watcher for Saying<'_, R> {
 }
 
 impl<R: Eprint> Observer<News> for Saying<'_, R> {
-    // Where it can't be said, the node goes on.
+    // Prints the event of `peer`. If that fails, the node continues.
     fn observe(&self, peer: u16, news: News) {
         let said = NewsSaid { peer, news };
+        let peer = self.called.member(peer);
         let _ = eprintln!(self.rt; "payd: peer {peer} {said}");
     }
 }
 
-/// Says which member of which group a node is, and on which port it listens. The group is told by
-/// the beginning of the genesis's digest, as the member's log has it.
+/// Prints which member of which group a node is, and the port that it listens on. The group is
+/// given by the first digits of the genesis's digest, as the member's log has it. If the genesis is
+/// a group's file, its fingerprint is given too. All that distinguishes two groups is in that.
 pub(crate) fn say_node(
     alloc: Global,
     rt: &impl Eprint,
     genesis: &Genesis,
     keys: &Keys,
     ports: &Ports,
+    called: &Called,
 ) -> Result<(), AllocError>
     requires { length ports.now ≡ length keys.now.keys }
 {
     let [a, b, c, d, ..] = log_header(alloc, genesis, keys)?.genesis;
     let digest = u32::from_be_bytes([a, b, c, d]);
-    let own = keys.own();
-    let (members, port) = (keys.members(), ports.port(own));
-    let _ = eprintln!(rt; "payd: member {own} of {members}, genesis {digest:08x}, port {port}");
+    let (members, port) = (keys.members(), ports.port(keys.own()));
+    let (own, group) = (called.member(keys.own()), called.group());
+    let _ = eprintln!(rt;
+        "payd: member {own} of {members}, genesis {digest:08x}, port {port}{group}"
+    );
     Ok(())
 }
 
-/// Says that a member is lost with its node.
+/// Prints that a member is lost with its node.
 pub(crate) fn say_in_memory(rt: &impl Eprint) {
     let _ = eprintln!(rt; "payd: {IN_MEMORY}");
 }
 
-/// Says which file has a fault, and whose key in it.
+/// Returns what a node reports if more than f peers know more than its log, which had `entries` at
+/// the start.
+// promise: comparing
+pub(crate) fn rollback_fault(entries: usize) -> LogFault
+    ensures { result ≡ rollback_fault entries }
+{
+    if entries == 0 {
+        LogFault::Known
+    } else {
+        LogFault::Forgotten
+    }
+}
+
+/// Prints the absolute path of the folder that keeps a node's member, or `folder` as it is if the
+/// system has no path that fits on a line.
+pub(crate) fn say_folder(alloc: Global, rt: &(impl Files + Eprint), folder: &str) {
+    let found = rt.canonicalize(alloc, folder);
+    let path = match &found {
+        Ok(path) => path.to_str().unwrap_or(folder),
+        Err(_) => folder,
+    };
+    let path = if has_control(path.as_bytes()) {
+        folder
+    } else {
+        path
+    };
+    let _ = eprintln!(rt; "payd: folder {path}");
+}
+
+/// Prints which file has a fault, and the member of a key in it.
 pub(crate) fn say_place(rt: &impl Eprint, place: Option<(&str, Option<u16>)>) {
     let _ = match place {
         None => Ok(()),
@@ -131,10 +285,10 @@ pub(crate) fn say_place(rt: &impl Eprint, place: Option<(&str, Option<u16>)>) {
 /// What a member's log has at the start.
 #[derive(Clone, Copy, Debug)]
 pub(crate) enum Found {
-    /// It was made just now.
+    /// The log was made just now.
     Nothing,
-    /// So many entries, by which so many payments of all accounts are settled; so many bytes behind
-    /// them are no part of it.
+    /// `entries` in the log, `payments` of all accounts settled. The last `dropped` bytes aren't
+    /// part of a record block.
     History {
         entries: usize,
         payments: u64,
@@ -143,7 +297,7 @@ pub(crate) enum Found {
 }
 
 impl Found {
-    /// What the log of this member has, as it was found.
+    /// Returns what the log of `member` has, according to how it was found.
     pub(crate) fn of(member: &OwnMember, found: FoundAs) -> Found {
         match found {
             FoundAs::New => Found::Nothing,
@@ -156,7 +310,7 @@ impl Found {
     }
 }
 
-/// Says what the log had at the start.
+/// Prints what the log had at the start.
 pub(crate) fn say_start(rt: &impl Eprint, found: Found) {
     let Found::History {
         entries,
@@ -173,7 +327,7 @@ pub(crate) fn say_start(rt: &impl Eprint, found: Found) {
     }
 }
 
-/// Says of an export what the log that it is by has beside it.
+/// Prints what the log of an export has besides its record blocks.
 pub(crate) fn say_view(rt: &impl Eprint, is_held: bool, behind: u64) {
     if is_held {
         let _ = eprintln!(rt; "payd: log: a node has it, so this is the member as of now");
@@ -182,7 +336,7 @@ pub(crate) fn say_view(rt: &impl Eprint, is_held: bool, behind: u64) {
     }
 }
 
-// How many payments of all accounts are settled.
+// Returns how many payments of all accounts are settled.
 fn settled_count(member: &OwnMember) -> u64 {
     let mut sum: u64 = 0;
     for account in 0..member.genesis().members() {
@@ -191,7 +345,8 @@ fn settled_count(member: &OwnMember) -> u64 {
     sum
 }
 
-/// News of a peer, in words.
+/// A peer event in words, with the name of the owner of the account that a protocol violation is
+/// about, if it has one.
 #[derive(Clone, Copy)]
 struct NewsSaid {
     peer: u16,
@@ -224,7 +379,7 @@ impl fmt::Display for NewsSaid {
     }
 }
 
-/// A lie of a peer, in words.
+/// A protocol violation of a peer, in words.
 #[derive(Clone, Copy)]
 struct LieSaid {
     peer: u16,
@@ -247,7 +402,7 @@ impl fmt::Display for LieSaid {
     }
 }
 
-// Whether a peer spoke as if another's account were its own.
+// Returns whether a peer spoke as if another's account were its own.
 fn is_about_another(peer: u16, lie: Lie) -> bool
     ensures { result ≡ is_about_another peer lie }
 {

@@ -1,4 +1,4 @@
-//! The socket of a node's desk, by the words that name it.
+//! The socket of a node's desk, according to the words that name it.
 
 ghost use Rattle.std.specs.Prelude.{◌≡◌, ◌≤◌, IfOk, IfSome, string_bytes, string_len};
 ghost use Rattle.std.specs.Option.{option_copied, option_map};
@@ -6,6 +6,7 @@ ghost use Rattle.payd.specs.Sockets.{socket_name};
 ghost use Rattle.pay_net.specs.declared.desk_socket.TheConstants.{MOST_SOCKET_NAME};
 
 use crate::stop::Stop;
+use pay_log::Obstacle;
 use pay_net::{DeskSocket, MOST_SOCKET_NAME};
 use std::alloc::{AllocError, Global};
 use std::fs;
@@ -13,10 +14,10 @@ use std::io::ErrorKind;
 use std::net::Net;
 use std::rt::Files;
 
-/// What it is called in a node's folder.
+/// The name of the socket in a node's folder.
 const DESK: &str = "desk";
 
-/// A socket on which a node listens, and its name, under which it is removed at the end.
+/// A socket that a node listens on, and the name that is removed at the end.
 #[derive(Drop)]
 pub(crate) struct NamedSocket {
     pub(crate) socket: DeskSocket,
@@ -24,13 +25,13 @@ pub(crate) struct NamedSocket {
 }
 
 impl NamedSocket {
-    /// Removes the socket's name: nobody may call on it any more.
+    /// Removes the socket's name, so that nobody may connect to it any more.
     pub(crate) fn remove(&self, rt: &impl Files) {
         let _ = fs::remove_file(rt, self.path.as_str());
     }
 }
 
-/// The name of a node's socket: the one that is given, or the one in its folder.
+/// Returns the name of a node's socket: the given one, or the one in its folder.
 pub(crate) fn socket_path<'a>(
     alloc: Global,
     folder: Option<&str>,
@@ -76,6 +77,22 @@ pub(crate) fn listen<'a, R: Files + Net>(
     match DeskSocket::bind(rt, alloc, path.as_str()) {
         Ok(socket) => Ok(Some(NamedSocket { socket, path })),
         Err(error) if error.kind() == ErrorKind::OutOfMemory => Err(Stop::from(AllocError)),
+        Err(error) if error.kind() == ErrorKind::AlreadyExists => {
+            let new_path = format!(in alloc; "{path}.new")?;
+            Err(what_has(rt, path, new_path))
+        }
         Err(error) => Err(Stop::Socket(path, error.kind())),
+    }
+}
+
+// Returns what is in a socket's way: what has its name, or the name of the folder that it is made
+// in.
+fn what_has<'a>(rt: &impl Files, path: String, new_path: String) -> Stop<'a> {
+    if let Ok(found) = fs::symlink_metadata(rt, path.as_str()) {
+        return Stop::Taken(path, Obstacle::of(found.file_type()));
+    }
+    match fs::symlink_metadata(rt, new_path.as_str()) {
+        Ok(found) => Stop::Taken(new_path, Obstacle::of(found.file_type())),
+        Err(_) => Stop::Socket(path, ErrorKind::AlreadyExists),
     }
 }

@@ -1,20 +1,23 @@
-//! The lines of a node that may go on behind their end.
+//! The lines of a node. The node may continue after their end, or end before it.
 
 ghost use Rattle.std.specs.Prelude.{◌≡◌, ◌↔◌, ◌<◌, ◌*◌, ℕ, IfErr, IsSome, IsTrue, None, Ok, OnOk};
 ghost use Rattle.payd.specs.declared.stop.Stop.TheVariants.{New, Stay};
 
 use crate::stop::Stop;
+use libc::STDIN_FILENO;
+use libc::net::{POLLIN, poll};
+use libc::types::pollfd;
 use pay_cli::NodeWords;
-use pay_io::{DeviceFailed, Input};
+use pay_frame::{DeviceFailed, Input};
 use std::sync::Wait;
 use std::sync::atomic::{AtomicBool, AtomicU64, Ordering};
 use std::thread;
 use std::time::{Clock, Duration};
 
-/// How long a node that stays sleeps before it looks again whether it has to end.
-const PAUSE_MILLIS: u64 = 500;
+/// The pause before a node tests again whether it has to end.
+const PAUSE_MILLIS: u16 = 100;
 
-/// Only a node with a folder may stay.
+/// Refuses `--stay` without a folder.
 pub(crate) fn judge_stay<'a>(words: &NodeWords) -> Result<(), Stop<'a>>
     ensures may { OnOk result (IsTrue words.now.stays → IsSome words.now.folder) }
     ensures stop { IfErr result (λ stop. (stop ≡ Stay) × IsTrue words.now.stays
@@ -26,7 +29,7 @@ pub(crate) fn judge_stay<'a>(words: &NodeWords) -> Result<(), Stop<'a>>
     Ok(())
 }
 
-/// Only in a folder a member is made.
+/// Refuses `--new` without a folder.
 pub(crate) fn judge_new<'a>(words: &NodeWords) -> Result<(), Stop<'a>>
     ensures may { OnOk result (IsTrue words.now.makes_new → IsSome words.now.folder) }
     ensures stop { IfErr result (λ stop. (stop ≡ New) × IsTrue words.now.makes_new
@@ -38,45 +41,42 @@ pub(crate) fn judge_new<'a>(words: &NodeWords) -> Result<(), Stop<'a>>
     Ok(())
 }
 
-/// Lines behind whose end, or a read that failed, a read may wait until the node has to end. They
-/// can't be read any more once its member has forgotten what it sent, or memory stays refused.
+/// The lines of standard input. They can't be read any more when the node has to end. This is
+/// tested while no line comes. After their end, or after a failed read, a read may wait until then.
 #[derive(Drop)]
 pub(crate) struct Lines<'a, R, In> {
     rt: &'a R,
     inner: In,
     stays: bool,
     ends: Ends<'a>,
-    // how often they were read by now, for others
+    // how often they were read up to now, for others
     reads: &'a AtomicU64,
     calls: u64,
     failures: u64,
 }
 
-/// Why a node has to end before its lines do.
+/// The reasons for which a node has to end before its lines do.
 #[derive(Clone, Copy)]
 pub(crate) struct Ends<'a> {
-    /// Its log failed.
+    /// True if the node's log failed.
     pub(crate) has_failed: &'a AtomicBool,
-    /// Its member has forgotten what it sent.
+    /// True if the node's member has lost state.
     pub(crate) forgets: &'a AtomicBool,
-    /// Memory stays refused to it.
+    /// True if the node is out of memory.
     pub(crate) starves: &'a AtomicBool,
 }
 
 impl Ends<'_> {
-    // Whether it has to, by now.
+    // Returns whether the node has to end now.
     fn are_there(&self) -> bool {
-        self.has_failed.load(Ordering::SeqCst) || self.are_before_lines()
-    }
-
-    // Whether it has to before another line is read.
-    fn are_before_lines(&self) -> bool {
-        self.forgets.load(Ordering::SeqCst) || self.starves.load(Ordering::SeqCst)
+        self.has_failed.load(Ordering::SeqCst)
+            || self.forgets.load(Ordering::SeqCst)
+            || self.starves.load(Ordering::SeqCst)
     }
 }
 
 impl<'a, R, In> Lines<'a, R, In> {
-    /// Nothing was read yet.
+    /// Creates the lines before the first read.
     pub(crate) fn new(
         rt: &'a R,
         inner: In,
@@ -100,7 +100,7 @@ impl<'a, R, In> Lines<'a, R, In> {
         }
     }
 
-    /// Whether the log of the node failed.
+    /// Returns the flag that says whether the log of the node failed.
     pub(crate) fn has_failed(&self) -> &'a AtomicBool {
         self.ends.has_failed
     }
@@ -116,7 +116,7 @@ impl<R: Wait + Clock, In: Input> Input for Lines<'_, R, In> {
     fn read(&mut self, buffer: &mut [u8]) -> Result<usize, DeviceFailed> {
         self.calls = self.calls.saturating_add(1);
         self.reads.store(self.calls, Ordering::SeqCst);
-        if self.ends.are_before_lines() {
+        if !self.wait_for_lines() {
             self.failures = self.failures.saturating_add(1);
             return Err(DeviceFailed);
         }
@@ -140,18 +140,42 @@ impl<R: Wait + Clock, In: Input> Input for Lines<'_, R, In> {
 }
 
 impl<R: Wait + Clock, In> Lines<'_, R, In> {
+    // Waits until there is something to read, and returns `false` if the node has to end.
+    fn wait_for_lines(&self) -> bool {
+        for _ in self.rt.forever() {
+            if self.ends.are_there() {
+                return false;
+            }
+            if may_be_read() {
+                return true;
+            }
+        }
+        true
+    }
+
     // Sleeps until the node has to end, which may be never.
     fn wait_for_end(&self) {
         for _ in self.rt.forever() {
             if self.ends.are_there() {
                 return;
             }
-            thread::sleep(self.rt, Duration::from_millis(PAUSE_MILLIS));
+            thread::sleep(self.rt, Duration::from_millis(u64::from(PAUSE_MILLIS)));
         }
     }
 }
 
-// Whether there may be more behind what was read.
+// Returns whether a read of standard input wouldn't wait, or the system can't tell. It waits for
+// that until the pause is over.
+fn may_be_read() -> bool {
+    let mut asked = [pollfd {
+        fd: STDIN_FILENO,
+        events: POLLIN,
+        revents: 0,
+    }];
+    poll(&mut asked, i32::from(PAUSE_MILLIS)) != 0
+}
+
+// Returns whether there may be more after what was read.
 fn has_more(read: &Result<usize, DeviceFailed>) -> bool
     ensures { IsTrue result ↔ ((count : ℕ) × (read.now ≡ Ok count) × (0 < count)) }
 {

@@ -1,4 +1,4 @@
-//! The texts about an export that words ask for.
+//! The texts about an export that words request.
 
 ghost use Rattle.std.specs.Prelude.{◌≡◌, IfErr, IfOk, None, Some, length, map};
 ghost use Rattle.std.specs.Option.{option_map};
@@ -6,16 +6,14 @@ ghost use Rattle.pay_audit.specs.Verdict.{verdict_of};
 ghost use Rattle.payd.specs.Texts.{AreFindings, AreSaid, IsBookSaid, IsStatementStop, IsTextStop};
 ghost use Rattle.payd.specs.Texts.{IsVerdictSaid, form_by, statement_said, verdict_line};
 
-use crate::batches::verdict_over;
-use crate::files::{NamedFiles, exports_of};
+use crate::files::{NamedFiles, exports_of, verdict_on};
 use crate::stop::Stop;
 use pay_audit::{Export, Named, Verdict, audit, findings_text};
 use pay_group::{BookForm, Said, book_text};
 use pay_journal::{account_named, statement_text, statements_text};
 use std::alloc::{AllocError, Global};
-use std::thread::Threads;
 
-/// The statement of the account that a word names, or without a word those of all.
+/// Returns the statement of the account that a word names, or without a word those of all.
 // promise: statements of exports
 pub(crate) fn statement_said<'a>(
     alloc: Global,
@@ -38,7 +36,7 @@ pub(crate) fn statement_said<'a>(
     }
 }
 
-/// How a book is written, as two flags say.
+/// Returns the form of a group ledger, according to two flags.
 pub(crate) fn form_of<'a>(as_genesis: bool, as_export: bool) -> Result<BookForm, Stop<'a>>
     ensures form { IfOk result (λ form. form_by as_genesis as_export ≡ Some form) }
     ensures stop { IfErr result (λ stop.
@@ -56,7 +54,7 @@ pub(crate) fn form_of<'a>(as_genesis: bool, as_export: bool) -> Result<BookForm,
     Ok(BookForm::Lines)
 }
 
-/// What is said of the exports in the files of these names.
+/// Returns what is said about the exports in the files of these `names`.
 // promise: group's book
 pub(crate) fn book_over<'a, F: NamedFiles>(
     alloc: Global,
@@ -73,18 +71,17 @@ pub(crate) fn book_over<'a, F: NamedFiles>(
     Ok(book_text(alloc, exports.as_slice(), form)?)
 }
 
-/// The verdict on exports, and a text that says it, or all that is wrong with them too.
+/// The verdict on exports, and the text that says it, or that says all that is wrong with them too.
 #[derive(Drop)]
 pub(crate) struct Findings {
     pub(crate) verdict: Verdict,
     pub(crate) text: Vec<u8>,
 }
 
-/// The verdict on the exports in the files of these names, read by so many threads.
+/// Returns the verdict on the exports in the files of these `names`. Only one export at a time is
+/// in memory.
 // promise: findings
-pub(crate) fn verdict_said<'a, R: Threads + Sync, F: NamedFiles + Sync>(
-    rt: &R,
-    jobs: usize,
+pub(crate) fn verdict_said<'a, F: NamedFiles>(
     alloc: Global,
     files: &F,
     names: &[&'a str],
@@ -94,21 +91,22 @@ pub(crate) fn verdict_said<'a, R: Threads + Sync, F: NamedFiles + Sync>(
     ensures stop { IfErr result (IsTextStop (F.holds files.now)
         (map (λ name. name.now) names.now)) }
 {
-    let verdict = verdict_over(rt, jobs, alloc, files, names)?;
+    let verdict = verdict_on(alloc, files, names)?;
     Ok(Findings {
         verdict,
         text: line_of(alloc, verdict)?,
     })
 }
 
-// A verdict as a line.
+// Returns a verdict as a line.
 fn line_of(alloc: Global, verdict: Verdict) -> Result<Vec<u8>, AllocError>
     ensures { IfOk result (λ line. line.items ≡ verdict_line verdict) }
 {
     Ok(format!(in alloc; "{verdict}\n")?.into_bytes())
 }
 
-/// The verdict on the exports in the files of these names, and then all that is wrong with them.
+/// Returns the verdict on the exports in the files of these `names`, and then all that is wrong
+/// with them.
 // promise: findings
 pub(crate) fn findings_over<'a, F: NamedFiles>(
     alloc: Global,
@@ -137,7 +135,7 @@ fn findings_of(alloc: Global, names: &[&str], exports: &[Export]) -> Result<Find
     Ok(Findings { verdict, text })
 }
 
-// The exports, each with the name of its file.
+// Returns the exports, each with the name of its file.
 fn name_exports<'a>(
     alloc: Global,
     names: &[&'a str],

@@ -1,10 +1,11 @@
-//! When a node saw entries settle, in a file of its folder: its member's own memory.
+//! The times at which a node saw entries settle, in a file of its folder: its member's own memory.
 
 ghost use Rattle.std.specs.Prelude.{◌≡◌, ◌++◌, IfOk, IsOk, OnOk, min};
 ghost use Rattle.std.specs.List.{sum};
 ghost use Rattle.pay_desk.specs.Words.{number_words};
 ghost use Rattle.payd.specs.Times.{IsInSeconds, times_words};
 
+use crate::advice::say_unwritten;
 use jiff::Zoned;
 use jiff::civil::{DateTime, Time};
 use jiff::tz::TimeZone;
@@ -18,16 +19,10 @@ use std::rt::Files;
 use std::sync::atomic::{AtomicBool, AtomicU64, Ordering};
 use std::time::Clock;
 
-// node: Times: `times` is the member's own memory of when it saw entries settle, and no promise
-//   of the group. It has a line of each start, and of each change of the fronts, at most one
-//   a second: the time in UTC and all fronts, as `2026-11-29T13:20:09Z 3 0 1 0`. Lines are
-//   appended and never changed. Lost ones make times later, and a clock that went back
-//   counts as not earlier than the line before. If it can't be written, the node says so
-//   once, and payments go on.
-/// What it is called in a node's folder.
+/// The name of the file in a node's folder.
 const TIMES: &str = "times";
 
-/// For the owner, and for the folder's group to read.
+/// The mode of a file that its owner may write and the folder's group may read.
 const FILE_MODE: u32 = 0o640;
 
 const LINE_FEED: u8 = 10;
@@ -38,13 +33,13 @@ pub(crate) struct TimesFile<'a, R> {
     rt: &'a R,
     alloc: Global,
     path: String,
-    /// How many entries of all accounts had settled by the last line of this node.
+    /// The count of entries of all accounts that had settled by the last line of this node.
     noted: AtomicU64,
     has_failed: AtomicBool,
 }
 
 impl<'a, R> TimesFile<'a, R> {
-    /// The one in a folder, to which nothing is appended yet.
+    /// Returns the file in a folder. Nothing is appended yet.
     pub(crate) fn new(
         rt: &'a R,
         alloc: Global,
@@ -61,24 +56,26 @@ impl<'a, R> TimesFile<'a, R> {
 }
 
 impl<R: Files<File = File> + Eprint + Clock> TimesFile<'_, R> {
-    /// Appends a line if entries have settled since the last one. Where it can't be appended, that
-    /// is said once and the node goes on.
+    /// Appends a line if entries have settled since the last one. If that fails, it is reported
+    /// once and the node continues.
     pub(crate) fn watch(&self, fronts: &[u32]) {
         let settled = settled_in(fronts);
         if settled == self.noted.load(Ordering::SeqCst) {
             return;
         }
-        if self.append(fronts).is_ok() {
-            self.noted.store(settled, Ordering::SeqCst);
-        } else if !self.has_failed.swap(true, Ordering::SeqCst) {
-            let path = self.path.as_str();
-            let _ = eprintln!(self.rt; "payd: {path} can't be written");
+        match self.append(fronts) {
+            Ok(()) => self.noted.store(settled, Ordering::SeqCst),
+            Err(error) => {
+                if !self.has_failed.swap(true, Ordering::SeqCst) {
+                    say_unwritten(self.rt, self.path.as_str(), error.kind());
+                }
+            }
         }
     }
 }
 
 impl<R: Files<File = File> + Clock> TimesFile<'_, R> {
-    // A line that was cut gets its end first.
+    // Appends a line. A line that was cut off gets its end first.
     fn append(&self, fronts: &[u32]) -> io::Result<()> {
         let Ok(moment) = moment_of(self.rt) else {
             return Err(io::Error::from(io::ErrorKind::Other));
@@ -99,7 +96,7 @@ impl<R: Files<File = File> + Clock> TimesFile<'_, R> {
     }
 }
 
-// Whether a file's last line has no end.
+// Returns whether a file's last line has no end.
 fn is_cut(file: &File) -> io::Result<bool> {
     let len = file.metadata()?.len();
     let mut last = [LINE_FEED];
@@ -109,7 +106,7 @@ fn is_cut(file: &File) -> io::Result<bool> {
     Ok(last[0] != LINE_FEED)
 }
 
-// How many entries of all accounts have settled.
+// Returns how many entries of all accounts have settled.
 fn settled_in(fronts: &[u32]) -> u64
     ensures { result ≡ min (sum fronts.now) 18446744073709551615 }
 {
@@ -120,14 +117,14 @@ fn settled_in(fronts: &[u32]) -> u64
     settled
 }
 
-/// The clock's moment in UTC, in whole seconds.
+/// Returns the clock's moment in UTC, in whole seconds.
 fn moment_of(clock: &impl Clock) -> Result<DateTime, jiff::Error>
     ensures { IfOk result (λ moment. moment.time.subsec_nanosecond ≡ 0) }
 {
     in_seconds(Zoned::now(clock, TimeZone::UTC)?.datetime())
 }
 
-// A moment without its fraction of a second, which each moment has.
+// Returns a moment without its fraction of a second.
 fn in_seconds(now: DateTime) -> Result<DateTime, jiff::Error>
     ensures some { IsOk result }
     ensures value { IfOk result (IsInSeconds now) }
@@ -136,7 +133,7 @@ fn in_seconds(now: DateTime) -> Result<DateTime, jiff::Error>
     Ok(DateTime::from_parts(now.date(), time))
 }
 
-/// The line of a moment.
+/// Returns the line of a moment.
 #[tactic(auto, unfolding(pay_desk::specs::Words::end_of_line))]
 fn times_line(alloc: Global, moment: DateTime, fronts: &[u32]) -> Result<Vec<u8>, AllocError>
     ensures { IfOk result (λ line. line.items ≡ times_words moment fronts.now) }

@@ -4,7 +4,7 @@ ghost use Rattle.std.specs.Prelude.{◌≡◌, IfOk};
 ghost use Rattle.pay_book.specs.Book.{fresh};
 
 use crate::book::lists::Lists;
-use pay_book::{Line, Settle, laws, statement};
+use pay_book::{Settle, laws};
 use pay_link::Genesis;
 use std::alloc::{AllocError, Global};
 use std::marker::Model;
@@ -58,19 +58,6 @@ impl<B: Settle + Drop> Ledger<B> {
         Ok(Some(self.book.settle(&self.lists, owner)))
     }
 
-    /// Whether each account has this front and this balance.
-    pub(crate) fn shows(&self, fronts: &[u32], balances: &[u64]) -> bool {
-        for account in 0..self.accounts {
-            let place = account as usize;
-            if fronts.get(place) != Some(&self.book.front(account))
-                || balances.get(place) != Some(&self.book.balance(account))
-            {
-                return false;
-            }
-        }
-        true
-    }
-
     /// Whether each account stands as in another book, at the same front, balance and place.
     pub(crate) fn stands_as<C: Settle + Drop>(&self, other: &Ledger<C>) -> bool {
         for account in 0..self.accounts {
@@ -83,28 +70,5 @@ impl<B: Settle + Drop> Ledger<B> {
             }
         }
         self.accounts == other.accounts
-    }
-
-    /// Where an account stands, if there is one.
-    pub(crate) fn place(&self, account: u16) -> Option<(u32, u8)> {
-        if account < self.accounts {
-            Some(self.book.place(account))
-        } else {
-            None
-        }
-    }
-
-    /// Whether there is this account, with this statement.
-    pub(crate) fn states(
-        &self,
-        alloc: Global,
-        account: u16,
-        lines: &[Line],
-    ) -> Result<bool, AllocError> {
-        if account >= self.accounts {
-            return Ok(false);
-        }
-        let found = statement(alloc, &self.lists, &self.book, self.accounts, account)?;
-        Ok(found.as_slice() == lines)
     }
 }

@@ -1,4 +1,4 @@
-//! A node that compares what its peers show before it is asked for values.
+//! A node that compares what its peers claim before it is asked for values.
 
 ghost use Rattle.std.specs.Prelude.{◌≡◌};
 
@@ -10,7 +10,7 @@ use std::alloc::Global;
 use std::marker::Brand;
 use std::sync::Wait;
 
-/// What came of an ask behind each WANT of a peer, and whether the node's member has forgotten at
+/// What came of an ask behind each claim of a peer, and whether the node's member has forgotten at
 /// the end.
 #[derive(Clone, Copy, Debug, PartialEq, Eq)]
 struct Came {
@@ -19,9 +19,9 @@ struct Came {
     forgets: bool,
 }
 
-/// The first WANTs of two peers.
+/// Two claims, each of a peer and how many frames it took.
 #[derive(Clone, Copy, Debug)]
-struct Wants {
+struct Claims {
     first: (u16, u64),
     second: (u16, u64),
 }
@@ -40,21 +40,21 @@ fn asks<S: Beginning, R: Wait>(
     }
 }
 
-// What comes of these WANTs at a node of a member that sent nothing.
+// What comes of these claims at a node of a member that sent nothing.
 fn compares<S: Beginning, R: Wait>(
     rt: &R,
     alloc: Global,
     member: OwnMember,
-    wants: Wants,
+    claims: Claims,
 ) -> Option<Came>
     requires { member ≡ S.beginning }
 {
     let (node, mut seats) = Node::comparing(alloc, member, 1).ok()?;
     let node: Node<S> = node;
     let seat = seats.first_mut()?;
-    node.hear(rt, wants.first.0, wants.first.1);
+    node.note_claim(rt, claims.first.0, claims.first.1);
     let first = asks(rt, alloc, &node, seat)?;
-    node.hear(rt, wants.second.0, wants.second.1);
+    node.note_claim(rt, claims.second.0, claims.second.1);
     let second = asks(rt, alloc, &node, seat)?;
     Some(Came {
         first,
@@ -63,15 +63,15 @@ fn compares<S: Beginning, R: Wait>(
     })
 }
 
-fn came_of<R: Wait>(rt: &R, alloc: Global, wants: Wants) -> Option<Came> {
+fn came_of<R: Wait>(rt: &R, alloc: Global, claims: Claims) -> Option<Came> {
     let member = member_of(alloc, FOUR)?;
-    compares::<Brand, R>(rt, alloc, member, wants)
+    compares::<Brand, R>(rt, alloc, member, claims)
 }
 
 fn comes<R: Wait>(rt: &R, alloc: Global, first: (u16, u64), second: (u16, u64)) -> Option<Came> {
-    let wants = Wants { first, second };
-    match came_of(rt, alloc, wants) {
-        None => came_of(rt, alloc, wants),
+    let claims = Claims { first, second };
+    match came_of(rt, alloc, claims) {
+        None => came_of(rt, alloc, claims),
         found => found,
     }
 }

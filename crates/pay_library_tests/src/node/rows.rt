@@ -28,7 +28,7 @@ pub(crate) const FOUR: Group = Group {
 
 /// A SEND of member 0 to member 1, number 0, about its first broadcast, with an empty value.
 /// Another program tagged it.
-const SEND: &[u8] = &[
+pub(crate) const SEND: &[u8] = &[
     0, 54, 1, 1, 0, 0, 0, 1, 0, 0, 0, 0, 0, 0, 0, 0, 0, 0, 0, 0, 0, 0, 0, 0, 95, 18, 216, 156, 232,
     199, 171, 234, 104, 63, 10, 5, 239, 51, 203, 236, 225, 46, 12, 222, 29, 67, 48, 187, 155, 99,
     95, 28, 6, 226, 59, 98,

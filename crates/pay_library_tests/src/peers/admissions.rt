@@ -1,13 +1,13 @@
-//! Whose a connection is: told once, when its first WANT opens; which greater numbers are asked for
-//! on it; and what becomes of the WANTs that come.
+//! Whose a connection is: told when its first WANT for a place opens, and at each for a place above
+//! those before it; and what becomes of the WANTs that come.
 
 ghost use Rattle.std.specs.Prelude.{◌≡◌};
 
+use crate::node::rows::{FOUR, PAYMENT, SEND};
 use crate::node::trial::{fetch_seat, member_of, node_of};
-use crate::peers::rows::{FOUR, PAYMENT, SEND, WANT, WANT_FROM_2, WANT_OF_0, WANT_OF_2};
-use pay_frame::Bytes;
+use crate::peers::rows::{CHALLENGE, CLAIM, NO_CHALLENGE, WANT, WANT_FROM_2, WANT_OF_0, WANT_OF_2};
+use pay_frame::{Bytes, Output, Reader, Writer};
 use pay_hmac::HmacSha256;
-use pay_io::{Output, Reader, Writer};
 use pay_node::{Beginning, FetchSeat, Node, OwnMember, Seat};
 use pay_peers::{Admission, NodeContext, write_peer};
 use std::alloc::Global;
@@ -15,14 +15,13 @@ use std::marker::Brand;
 use std::sync::atomic::{AtomicBool, AtomicU64, Ordering};
 use std::sync::{Mutex, Wait};
 
-/// Counts how often a connection was admitted, for whom last, and how often it asked for a greater
-/// number, and lets it go on or not.
+/// Counts how often a connection asked for a place above those before it, and who did so last, and
+/// lets it go on or not.
 #[derive(Drop)]
 pub(crate) struct Admissions {
     goes_on: bool,
     count: AtomicU64,
     peer: AtomicU64,
-    advances: AtomicU64,
 }
 
 impl Admissions {
@@ -31,16 +30,14 @@ impl Admissions {
             goes_on,
             count: AtomicU64::new(0),
             peer: AtomicU64::new(u64::MAX),
-            advances: AtomicU64::new(0),
         }
     }
 
-    // How often, for whom last, and how often more was asked for.
-    fn counts(&self) -> (u64, u64, u64) {
+    // How often, and who did last.
+    fn counts(&self) -> (u64, u64) {
         (
             self.count.load(Ordering::SeqCst),
             self.peer.load(Ordering::SeqCst),
-            self.advances.load(Ordering::SeqCst),
         )
     }
 }
@@ -49,11 +46,6 @@ impl Admission for Admissions {
     fn admit<R: Wait>(&self, _rt: &R, peer: u16, _number: u64) -> bool {
         self.count.fetch_add(1, Ordering::SeqCst);
         self.peer.store(u64::from(peer), Ordering::SeqCst);
-        self.goes_on
-    }
-
-    fn advance<R: Wait>(&self, _rt: &R, _peer: u16, _number: u64) -> bool {
-        self.advances.fetch_add(1, Ordering::SeqCst);
         self.goes_on
     }
 
@@ -67,12 +59,12 @@ struct Row {
     came: Came,
 }
 
-/// How often a connection was admitted, for whom last, and how often it asked for a greater number;
-/// how many bytes were written in how many calls; and how many receipts are left in the seats of
-/// members 0 and 2.
+/// How often a connection asked for a place above those before it, and who did so last; how many
+/// bytes were written in how many calls; and how many receipts are left in the seats of members 0
+/// and 2.
 #[derive(Clone, Copy, Debug, PartialEq, Eq)]
 struct Came {
-    admitted: (u64, u64, u64),
+    admitted: (u64, u64),
     bytes: usize,
     calls: u64,
     receipts: (usize, usize),
@@ -81,9 +73,12 @@ struct Came {
 /// The length of each reply, a frame with a payment.
 const REPLY: usize = 67;
 
+/// The length of a claim.
+const CLAIM_LEN: usize = 56;
+
 /// Nobody asked for it, and nothing was written.
 const NOTHING: Came = Came {
-    admitted: (0, u64::MAX, 0),
+    admitted: (0, u64::MAX),
     bytes: 0,
     calls: 0,
     receipts: (0, 0),
@@ -100,7 +95,7 @@ const ROWS: &[Row] = &[
         frames: &[WANT, WANT],
         goes_on: false,
         came: Came {
-            admitted: (1, 0, 0),
+            admitted: (1, 0),
             ..NOTHING
         },
     },
@@ -108,7 +103,7 @@ const ROWS: &[Row] = &[
         frames: &[SEND, WANT],
         goes_on: true,
         came: Came {
-            admitted: (1, 0, 0),
+            admitted: (1, 0),
             bytes: REPLY,
             calls: 1,
             receipts: (1, 0),
@@ -118,7 +113,7 @@ const ROWS: &[Row] = &[
         frames: &[SEND, WANT, WANT],
         goes_on: true,
         came: Came {
-            admitted: (1, 0, 0),
+            admitted: (1, 0),
             bytes: 2 * REPLY,
             calls: 1,
             receipts: (1, 0),
@@ -128,7 +123,7 @@ const ROWS: &[Row] = &[
         frames: &[WANT, WANT_OF_0],
         goes_on: true,
         came: Came {
-            admitted: (1, 0, 0),
+            admitted: (1, 0),
             bytes: 2 * REPLY,
             calls: 1,
             receipts: (2, 0),
@@ -138,7 +133,7 @@ const ROWS: &[Row] = &[
         frames: &[WANT, WANT_OF_2, SEND, WANT_OF_0],
         goes_on: true,
         came: Came {
-            admitted: (1, 0, 0),
+            admitted: (1, 0),
             bytes: 3 * REPLY,
             calls: 1,
             receipts: (3, 0),
@@ -148,7 +143,7 @@ const ROWS: &[Row] = &[
         frames: &[WANT, WANT, WANT_OF_0, WANT, WANT_OF_0],
         goes_on: true,
         came: Came {
-            admitted: (1, 0, 0),
+            admitted: (1, 0),
             bytes: 5 * REPLY,
             calls: 1,
             receipts: (2, 0),
@@ -158,7 +153,7 @@ const ROWS: &[Row] = &[
         frames: &[WANT_OF_0, WANT_OF_2, WANT],
         goes_on: true,
         came: Came {
-            admitted: (1, 0, 2),
+            admitted: (3, 0),
             bytes: 3 * REPLY,
             calls: 1,
             receipts: (3, 0),
@@ -168,7 +163,7 @@ const ROWS: &[Row] = &[
         frames: &[WANT_FROM_2],
         goes_on: true,
         came: Came {
-            admitted: (1, 2, 0),
+            admitted: (1, 2),
             bytes: REPLY,
             calls: 1,
             receipts: (0, 1),
@@ -178,7 +173,7 @@ const ROWS: &[Row] = &[
         frames: &[WANT, WANT_OF_0, WANT_FROM_2],
         goes_on: true,
         came: Came {
-            admitted: (1, 0, 0),
+            admitted: (1, 0),
             bytes: 3 * REPLY,
             calls: 1,
             receipts: (2, 1),
@@ -188,10 +183,30 @@ const ROWS: &[Row] = &[
         frames: &[WANT_FROM_2, WANT_OF_0],
         goes_on: true,
         came: Came {
-            admitted: (1, 2, 0),
+            admitted: (1, 2),
             bytes: 2 * REPLY,
             calls: 1,
             receipts: (1, 1),
+        },
+    },
+    // a claim goes out with no admission, and nothing is asked for by what is no challenge
+    Row {
+        frames: &[CHALLENGE, NO_CHALLENGE, CLAIM],
+        goes_on: false,
+        came: Came {
+            bytes: CLAIM_LEN,
+            calls: 1,
+            ..NOTHING
+        },
+    },
+    Row {
+        frames: &[CHALLENGE, WANT],
+        goes_on: true,
+        came: Came {
+            admitted: (1, 0),
+            bytes: CLAIM_LEN + REPLY,
+            calls: 2,
+            receipts: (1, 0),
         },
     },
 ];
@@ -240,6 +255,7 @@ fn write_frames<S: Beginning, R: Wait>(
         alloc,
         node,
         tagger: &HmacSha256,
+        nonce: 0,
     };
     let ended = write_peer(&context, seats, &stop, admissions, &mut reader, &mut writer);
     let calls = writer.calls();

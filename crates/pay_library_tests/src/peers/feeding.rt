@@ -2,10 +2,11 @@
 
 ghost use Rattle.std.specs.Prelude.{◌≡◌};
 
+use crate::node::rows::FOUR;
 use crate::node::trial::{fault_at_closing, member_of, node_of};
-use crate::peers::rows::{FED, FOUR, WANTED};
+use crate::peers::rows::{FED, WANTED};
+use pay_frame::{Output, Reader, Writer};
 use pay_hmac::HmacSha256;
-use pay_io::{Output, Reader, Writer};
 use pay_node::{Beginning, Node, OpenGate, OwnMember, Seat};
 use pay_peers::read_peer;
 use std::alloc::Global;

@@ -3,17 +3,18 @@
 
 ghost use Rattle.std.specs.Prelude.{◌≡◌};
 
+use crate::node::rows::FOUR;
 use crate::node::trial::{fault_at_closing, member_of, node_of};
-use crate::peers::rows::{FOUR, SEND, SEND_OF_2};
+use crate::peers::rows::{CLAIM_AND_SEND, CLAIM_AND_SEND_OF_2};
 use crate::peers::told::Told;
+use pay_frame::{Reader, Writer};
 use pay_hmac::{HmacSha256, Tagger};
-use pay_io::{Reader, Writer};
 use pay_node::{Beginning, Gate, Node, OwnMember, Seat};
 use pay_peers::{Ahead, Dial, Dialed, Dials, NodeContext, PeerReader, run_readers};
 use std::alloc::Global;
 use std::marker::Brand;
 use std::sync::Wait;
-use std::sync::atomic::{AtomicBool, Ordering};
+use std::sync::atomic::{AtomicBool, AtomicU32, Ordering};
 use std::thread;
 use std::thread::Threads;
 use std::time::{Clock, Duration};
@@ -28,13 +29,55 @@ const SENT: u8 = 1;
 
 const WANTED: u8 = 4;
 
+/// Two workers, of which one is held where its frame's tag is made or after that. They are of peers
+/// 0 and 2, or both of peer 0: the held frame is then a repeat of the other one's.
+#[derive(Clone, Copy, Debug)]
+struct Row {
+    held: u16,
+    at_tag: bool,
+    repeats: bool,
+}
+
+const ROWS: &[Row] = &[
+    Row {
+        held: 0,
+        at_tag: false,
+        repeats: false,
+    },
+    Row {
+        held: 1,
+        at_tag: false,
+        repeats: false,
+    },
+    Row {
+        held: 0,
+        at_tag: true,
+        repeats: false,
+    },
+    Row {
+        held: 1,
+        at_tag: true,
+        repeats: false,
+    },
+    Row {
+        held: 0,
+        at_tag: false,
+        repeats: true,
+    },
+    Row {
+        held: 1,
+        at_tag: false,
+        repeats: true,
+    },
+];
+
 /// Holds the worker of one stamp until the other one was answered: as its frame's tag is made, or
-/// after that, before the lock is taken. The other one asks for no frame before that.
+/// after that, before the lock is taken. The other one asks for no frame before that, or takes none
+/// where both are of one peer.
 #[derive(Drop)]
 struct Held<'a, C> {
     clock: &'a C,
-    stamp: u16,
-    at_tag: bool,
+    row: Row,
     is_held: AtomicBool,
     other_answered: AtomicBool,
     gave_up: AtomicBool,
@@ -59,13 +102,16 @@ impl<C: Clock> Held<'_, C> {
 
 impl<C: Clock> Gate for Held<'_, C> {
     fn pass(&self, stamp: u16) {
-        if stamp == self.stamp && !self.at_tag {
+        if stamp != self.row.held && self.row.repeats {
+            self.wait_for(&self.is_held);
+        }
+        if stamp == self.row.held && !self.row.at_tag {
             self.hold();
         }
     }
 
     fn answered(&self, stamp: u16) {
-        if stamp != self.stamp {
+        if stamp != self.row.held {
             self.other_answered.store(true, Ordering::SeqCst);
         }
     }
@@ -76,66 +122,75 @@ impl<C: Clock> Tagger for Held<'_, C> {
         // the test key of members 0 and 1 ends with 1, that of members 1 and 2 with 2
         let stamp = if key[31] == 1 { 0 } else { 1 };
         let kind = head.get(KIND).copied();
-        if stamp == self.stamp && self.at_tag && kind == Some(SENT) {
+        if stamp == self.row.held && self.row.at_tag && kind == Some(SENT) {
             self.hold();
         }
-        if stamp != self.stamp && kind == Some(WANTED) {
+        if stamp != self.row.held && !self.row.repeats && kind == Some(WANTED) {
             self.wait_for(&self.is_held);
         }
         HmacSha256.tag(key, head, rest)
     }
 }
 
-/// Gives each peer's stream once, and then tells its worker to stop.
+/// Gives each worker a stream of its peer, and then tells it to stop.
 #[derive(Drop)]
 struct Once {
     alloc: Global,
-    first_given: AtomicBool,
-    second_given: AtomicBool,
+    repeats: bool,
+    of_0: AtomicU32,
+    of_2: AtomicU32,
 }
 
 impl Dial<Reader<&'static [u8]>, Writer<Vec<u8>>> for Once {
-    fn dial(&self, peer: u16) -> Dialed<Reader<&'static [u8]>, Writer<Vec<u8>>> {
-        let given = if peer == 0 {
-            &self.first_given
-        } else {
-            &self.second_given
-        };
-        if given.swap(true, Ordering::SeqCst) {
+    fn dial(&self, peer: u16, _asks: bool) -> Dialed<Reader<&'static [u8]>, Writer<Vec<u8>>> {
+        let given = if peer == 0 { &self.of_0 } else { &self.of_2 };
+        if given.fetch_add(1, Ordering::SeqCst) > u32::from(self.repeats) {
             return Dialed::Stop;
         }
         Dialed::Streams(
-            Reader::new(frame_of(peer)),
+            Reader::new(frames_of(peer)),
             Writer::new(Vec::new(self.alloc)),
         )
     }
 }
 
-// The one frame of peer 0 or 2.
-fn frame_of(peer: u16) -> &'static [u8] {
-    if peer == 0 { SEND } else { SEND_OF_2 }
+// The claim and the one frame of peer 0 or 2.
+fn frames_of(peer: u16) -> &'static [u8] {
+    if peer == 0 {
+        CLAIM_AND_SEND
+    } else {
+        CLAIM_AND_SEND_OF_2
+    }
 }
 
-// Whether each seat was told of one frame.
-fn are_told(seats: &[Seat]) -> bool {
+// Whether each seat was told of one frame, which was taken unless it is a repeat.
+fn are_told(row: Row, seats: &[Seat]) -> bool {
     for seat in seats {
-        if seat.receipts().len() != 1 {
-            return false;
+        let is_taken = !row.repeats || seat.stamp() != row.held;
+        match seat.receipts() {
+            [receipt] if receipt.has_entry() == is_taken => {}
+            _ => return false,
         }
     }
     true
 }
 
 // The peer whose frames come from a seat.
-fn peer_of(seat: &Seat) -> u16 {
-    if seat.stamp() == 0 { 0 } else { 2 }
+fn peer_of(row: Row, seat: &Seat) -> u16 {
+    if seat.stamp() == 0 || row.repeats {
+        0
+    } else {
+        2
+    }
 }
 
 // Each seat with its peer.
-fn pairs_of(alloc: Global, seats: Vec<Seat>) -> Option<Vec<(u16, PeerReader)>> {
+fn pairs_of(alloc: Global, row: Row, seats: Vec<Seat>) -> Option<Vec<(u16, PeerReader)>> {
     let mut pairs = Vec::new(alloc);
     for seat in seats {
-        pairs.push((peer_of(&seat), PeerReader::new(seat))).ok()?;
+        pairs
+            .push((peer_of(row, &seat), PeerReader::new(seat)))
+            .ok()?;
     }
     Some(pairs)
 }
@@ -143,7 +198,7 @@ fn pairs_of(alloc: Global, seats: Vec<Seat>) -> Option<Vec<(u16, PeerReader)>> {
 fn seats_of(alloc: Global, pairs: Vec<(u16, PeerReader)>) -> Option<Vec<Seat>> {
     let mut seats = Vec::new(alloc);
     for (_, asking) in pairs {
-        let PeerReader { seat, window: _ } = asking;
+        let PeerReader { seat, .. } = asking;
         seats.push(seat).ok()?;
     }
     Some(seats)
@@ -154,22 +209,21 @@ fn run<S: Beginning + Send + Sync, R: Threads + Wait + Clock + Sync>(
     rt: &R,
     alloc: Global,
     node: &Node<S>,
-    held: u16,
-    at_tag: bool,
+    row: Row,
     pairs: &mut [(u16, PeerReader)],
 ) -> bool {
     let gate = Held {
         clock: rt,
-        stamp: held,
-        at_tag,
+        row,
         is_held: AtomicBool::new(false),
         other_answered: AtomicBool::new(false),
         gave_up: AtomicBool::new(false),
     };
     let dial = Once {
         alloc,
-        first_given: AtomicBool::new(false),
-        second_given: AtomicBool::new(false),
+        repeats: row.repeats,
+        of_0: AtomicU32::new(0),
+        of_2: AtomicU32::new(0),
     };
     let told = Told::new();
     let context = NodeContext {
@@ -177,6 +231,7 @@ fn run<S: Beginning + Send + Sync, R: Threads + Wait + Clock + Sync>(
         alloc,
         node,
         tagger: &gate,
+        nonce: 0,
     };
     run_readers(
         &context,
@@ -195,47 +250,26 @@ fn held_seats<S: Beginning + Send + Sync, R: Threads + Wait + Clock + Sync>(
     rt: &R,
     alloc: Global,
     node: &Node<S>,
-    held: u16,
-    at_tag: bool,
+    row: Row,
     seats: Vec<Seat>,
 ) -> Option<Vec<Seat>> {
-    let mut pairs = pairs_of(alloc, seats)?;
-    let in_time = run(rt, alloc, node, held, at_tag, pairs.as_mut_slice());
+    let mut pairs = pairs_of(alloc, row, seats)?;
+    let in_time = run(rt, alloc, node, row, pairs.as_mut_slice());
     let seats = seats_of(alloc, pairs)?;
     in_time.then_some(seats)
 }
 
-/// Two workers, of which one is held where its frame's tag is made or after that.
-#[derive(Clone, Copy, Debug)]
-struct Row {
-    held: u16,
-    at_tag: bool,
-}
-
-const ROWS: &[Row] = &[
-    Row {
-        held: 0,
-        at_tag: false,
-    },
-    Row {
-        held: 1,
-        at_tag: false,
-    },
-    Row {
-        held: 0,
-        at_tag: true,
-    },
-    Row {
-        held: 1,
-        at_tag: true,
-    },
-];
-
 // Whether a node closes with these seats, and each was told what it has to be.
-fn is_closed<S: Beginning>(alloc: Global, node: Node<S>, seats: Option<Vec<Seat>>) -> bool {
+fn is_closed<S: Beginning>(
+    alloc: Global,
+    node: Node<S>,
+    row: Row,
+    seats: Option<Vec<Seat>>,
+) -> bool {
     match seats {
         Some(seats) => {
-            fault_at_closing(alloc, node, seats.as_slice()).is_none() && are_told(seats.as_slice())
+            fault_at_closing(alloc, node, seats.as_slice()).is_none()
+                && are_told(row, seats.as_slice())
         }
         None => false,
     }
@@ -249,8 +283,8 @@ where
     requires { member ≡ S.beginning }
 {
     let (node, seats) = node_of::<S>(alloc, member, FOUR.seats)?;
-    let seats = held_seats(rt, alloc, &node, row.held, row.at_tag, seats);
-    Some(is_closed(alloc, node, seats))
+    let seats = held_seats(rt, alloc, &node, row, seats);
+    Some(is_closed(alloc, node, row, seats))
 }
 
 fn overlaps<R: Threads + Wait + Clock + Sync>(rt: &R, alloc: Global, row: Row) -> Option<bool> {

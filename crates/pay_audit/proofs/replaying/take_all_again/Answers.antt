@@ -4,7 +4,7 @@ use Rattle.std.proofs.lemmas.List.{take_all, take_more}
 use Rattle.pay_member.specs.Events.{events}
 use Rattle.pay_member.specs.Legal.{IsOwed, Legal}
 use Rattle.pay_member.specs.Member.{MemberFields, with_entry}
-use Rattle.pay_member.specs.declared.entry.HistoryEntry.{HistoryEntry}
+use Rattle.pay_member.specs.declared.event.HistoryEntry.{HistoryEntry}
 use Rattle.pay_audit.proofs.replaying.take_all_again.Goals as goal
 
 with_history : MemberFields → List HistoryEntry → MemberFields

@@ -1,7 +1,7 @@
 use Rattle.std.proofs.Common.{ap, sym, ◌∙◌, subst, arith}
 use Rattle.std.proofs.lemmas.Grind.{common_steps}
 use Rattle.std.specs.Bool.{then_some}
-use Rattle.pay_frame.specs.declared.kind.Kind.TheVariants.{Echo, Ready}
+use Rattle.pay_frame.specs.declared.body.Kind.TheVariants.{Echo, Ready}
 use Rattle.pay_echo.specs.Meaning.{Meaning}
 use Rattle.pay_echo.specs.Moves.{IsMoves}
 use Rattle.pay_channel.specs.History.{body_of}

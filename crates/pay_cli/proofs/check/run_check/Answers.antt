@@ -1,6 +1,6 @@
 use Rattle.std.proofs.Common.{◌≡◌, ◌∙◌, Err, sym, subst, rules}
-use Rattle.pay_engine.specs.declared.engine_fault.EngineFault.TheVariants.{Memory}
-use Rattle.pay_cli.specs.declared.progress.Progress.{Progress}
+use Rattle.pay_frame.specs.declared.engine.EngineFault.TheVariants.{Memory}
+use Rattle.pay_cli.specs.declared.check.Progress.{Progress}
 use Rattle.pay_cli.specs.CheckText.{checking, at_start}
 use Rattle.pay_cli.specs.Engine.{HasRoom}
 use Rattle.pay_cli.specs.Values.{checker_of}

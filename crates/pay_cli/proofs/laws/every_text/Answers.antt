@@ -1,5 +1,5 @@
 use Rattle.std.proofs.Common.{refl}
-use Rattle.pay_engine.specs.Exact.{text_from}
+use Rattle.pay_frame.specs.Exact.{text_from}
 use Rattle.pay_cli.specs.CheckText.{checking, at_start, known_after}
 use Rattle.pay_cli.proofs.laws.every_text.Goals as goal
 

@@ -1,7 +1,7 @@
 use Rattle.std.proofs.Common.{◌≡◌, List, Option, sym, ◌∙◌, ap}
-use Rattle.pay_frame.specs.declared.fault.FrameFault.{FrameFault}
+use Rattle.pay_frame.specs.declared.reading.FrameFault.{FrameFault}
 use Rattle.pay_frame.specs.Frame.{FrameFields}
-use Rattle.pay_engine.specs.Exact.{text_from}
+use Rattle.pay_frame.specs.Exact.{text_from}
 use Rattle.pay_cli.specs.CheckText.{checking, at_start}
 use Rattle.pay_cli.proofs.laws.one_text.Goals as goal
 

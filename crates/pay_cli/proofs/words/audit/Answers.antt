@@ -5,5 +5,4 @@ use Rattle.pay_cli.proofs.words.audit.Goals as goal
 pub returns : goal.returns
 returns c =
     let one = one_argument_more _ _ _ _ _ c.titled_command.ensures c.files.ensures c.in_ok-arg.ensures in
-    let two = one_argument_more _ _ _ _ _ one c.option.ensures c.in_ok-arg-2.ensures in
-    IfOk-weaker c.arg-3.result _ _ (λ r h. one_argument_more _ _ _ _ _ two c.flag.ensures h) c.arg-3.ensures
+    IfOk-weaker c.arg-2.result _ _ (λ r h. one_argument_more _ _ _ _ _ one c.flag.ensures h) c.arg-2.ensures

@@ -6,5 +6,4 @@ pub returns : goal.returns
 returns c =
     let one = one_argument_more _ _ _ _ _ c.titled_command.ensures c.file_option.ensures c.in_ok-arg.ensures in
     let two = one_argument_more _ _ _ _ _ one c.file_option-2.ensures c.in_ok-arg-2.ensures in
-    let three = one_argument_more _ _ _ _ _ two c.option.ensures c.in_ok-arg-3.ensures in
-    IfOk-weaker c.arg-4.result _ _ (λ r h. one_argument_more _ _ _ _ _ three c.flag.ensures h) c.arg-4.ensures
+    IfOk-weaker c.arg-3.result _ _ (λ r h. one_argument_more _ _ _ _ _ two c.flag.ensures h) c.arg-3.ensures

@@ -1,8 +1,8 @@
-use Rattle.std.proofs.Common.{false, ℕ, ◌+◌, List, ◌∷◌, ◌++◌, take, drop, sym, ap, ◌∙◌, subst, arith}
-use Rattle.pay_member.specs.declared.entry.HistoryEntry.{HistoryEntry}
+use Rattle.std.proofs.Common.{ℕ, ◌+◌, List, ◌∷◌, ◌++◌, take, drop, sym, ap, ◌∙◌, subst, arith}
+use Rattle.pay_member.specs.declared.event.HistoryEntry.{HistoryEntry}
 use Rattle.pay_member.specs.Legal.{Legal}
 use Rattle.pay_record.specs.Records.{record_of}
-use Rattle.pay_record.specs.Resuming.{LoggedFields}
+use Rattle.pay_record.specs.Records.{LoggedFields}
 use Rattle.pay_durable.proofs.Followed.{one_more, parts_at}
 use Rattle.pay_durable.proofs.following.push_missing.Goals as goal
 
@@ -19,7 +19,7 @@ push_record-requires c =
 pub loop-count-preserved : goal.loop-count-preserved
 loop-count-preserved c =
     let e = c.index-history-count.result in
-    let P : ℕ → LoggedFields = λ id. record { entry = e; id = id; whole = false } in
+    let P : ℕ → LoggedFields = λ id. record { entry = e; id = id } in
     record {
       gathered = one_more c.args.ids.now c.history-history.result.now c.args.count.now c.loop-count.count c.args.pending.now.items c.loop-count.pending.items c.push_record.new.out.items e
           c.loop-count.invariant.gathered c.loop-count-test.true c.index-history-count.is

@@ -1,5 +1,5 @@
 use Rattle.std.proofs.Common.{◌≤◌, ◌-◌, length}
-use Rattle.pay_log.specs.declared.limits.TheConstants.{MOST_PAYLOAD}
+use Rattle.pay_log.specs.declared.chunk.TheConstants.{MOST_PAYLOAD}
 use Rattle.pay_durable.specs.Following.{HasGathered}
 use Rattle.pay_durable.proofs.following.push_missing.Given as goal
 

@@ -1,8 +1,8 @@
 use Rattle.std.proofs.Common.{◌≡◌, ◌<◌, ◌≤◌, ℕ, List, length, map, take, Bor, refl, sym, ap, subst, ◌∙◌, arith}
 use Rattle.std.specs.List.{filter}
 use Rattle.pay_group.specs.Backing.{IsGroupList, IsSplit, has_at}
-use Rattle.pay_group.specs.declared.group_fault.GroupFault.{GroupFault}
-use Rattle.pay_group.specs.declared.group_fault.GroupFault.TheVariants.{Memory, Split}
+use Rattle.pay_group.specs.declared.texts.GroupFault.{GroupFault}
+use Rattle.pay_group.specs.declared.texts.GroupFault.TheVariants.{Memory, Split}
 use Rattle.pay_group.proofs.Agreed.{Agree, as_much, first_of, is_group_list, none_longer, none_yet, next_backers, one_more_agreed, short_lists, split_at}
 use Rattle.pay_group.proofs.listing.group_list.Goals as goal
 

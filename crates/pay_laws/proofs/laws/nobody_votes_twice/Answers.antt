@@ -1,6 +1,6 @@
 use Rattle.std.proofs.Common.{Contains, sym, subst}
 use Rattle.std.proofs.lemmas.List.Elements.{Contains-append_left}
-use Rattle.pay_frame.specs.declared.kind.Kind.TheVariants.{Send}
+use Rattle.pay_frame.specs.declared.body.Kind.TheVariants.{Send}
 use Rattle.pay_channel.specs.Asked.{asked_values}
 use Rattle.pay_channel.specs.History.{body_of, out}
 use Rattle.pay_channel.specs.Taken.{taken_bodies}
@@ -8,7 +8,7 @@ use Rattle.pay_world.specs.Setting.{group_at}
 use Rattle.pay_world.specs.Actions.{history_by}
 use Rattle.pay_laws.specs.Once.{HasVotesOnce}
 use Rattle.pay_laws.proofs.Once.{one_at_most, one_send, once_in_prefix}
-use Rattle.pay_member.specs.declared.lie.Lie.{Lie}
+use Rattle.pay_member.specs.declared.ledger.Lie.{Lie}
 use Rattle.pay_member.specs.Lies.{HasTold}
 use Rattle.pay_laws.proofs.NoLies.{no_lie}
 use Rattle.pay_laws.proofs.laws.nobody_votes_twice.Goals as goal

@@ -14,5 +14,5 @@ returns-clause-value g c known =
     let n : ℕ = 18446744073709551615 in
     let cut : c.deref.result.now ≡ take n rest = c.deref.ensures.value ∙ c.in_ok-tail.ensures.bytes known in
     let tail : c.deref.result.now ≡ rest = all_of_it rest c.deref.result.now n cut (omega (arith, c.deref.type_inv.1)) in
-    let P : List ℕ → Type 0 = λ l. IsTrue c.has_chunk_in.result ↔ HasChunkIn c.args.key.now c.args.place l in
+    let P : List ℕ → Type 0 = λ l. IsTrue c.has_chunk_in.result ↔ HasChunkIn c.args.key.now l in
     subst P tail c.has_chunk_in.ensures

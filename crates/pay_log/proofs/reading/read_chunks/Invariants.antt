@@ -1,5 +1,5 @@
 use Rattle.std.proofs.Common.{List, ℕ, ◌≤◌, ◌+◌, ◌-◌, drop}
-use Rattle.pay_log.specs.declared.limits.TheConstants.{MOST_PLACE}
+use Rattle.pay_log.specs.declared.chunk.TheConstants.{MOST_PLACE}
 use Rattle.pay_log.specs.Device.{IsUnchanged}
 use Rattle.pay_log.specs.Recovery.{HasReadTo}
 use Rattle.pay_log.specs.Sinks.{TakesAll}
@@ -13,7 +13,7 @@ invariant-loop-chunk g l = record {
   unchanged : g.D.Device.is_known l.fn.device
       → IsUnchanged g.D.Device.is_known g.D.Device.seen g.D.Device.may_leave g.D.Device.moment g.D.Device.left_since l.fn.device l.device;
   read : g.D.Device.is_known l.fn.device
-      → HasReadTo g.S.Sink.takes l.key (drop l.from (g.D.Device.seen l.fn.device)) l.fn.sink l.sink l.len l.count;
+      → HasReadTo g.S.Sink.takes l.key (drop 75 (g.D.Device.seen l.fn.device)) l.fn.sink l.sink l.len l.count;
 }
 
 abbrev pub decreases-loop-chunk : goal.decreases-loop-chunk

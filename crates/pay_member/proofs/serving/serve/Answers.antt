@@ -1,8 +1,8 @@
 use Rattle.std.proofs.Common.{◌≡◌, ℕ, List, ◌∙◌, subst}
 use Rattle.pay_frame.specs.Frame.{frame_bytes}
 use Rattle.pay_link.specs.Sealing.{want_frame}
-use Rattle.pay_engine.specs.Handling.{Start}
-use Rattle.pay_engine.specs.Exact.{TakesFrames, Writes}
+use Rattle.pay_frame.specs.Handling.{Start}
+use Rattle.pay_frame.specs.Exact.{TakesFrames, Writes}
 use Rattle.pay_member.specs.Member.{MemberFields}
 use Rattle.pay_member.specs.Serving.{first_want, serving}
 use Rattle.pay_member.proofs.serving.serve.Goals as goal

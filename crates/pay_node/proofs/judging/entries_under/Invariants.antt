@@ -1,6 +1,6 @@
 use Rattle.std.proofs.Common.{◌≡◌, ◌≤◌, eqb, take}
 use Rattle.std.specs.List.{count_by}
-use Rattle.pay_member.specs.declared.entry.HistoryEntry.{HistoryEntry}
+use Rattle.pay_member.specs.declared.event.HistoryEntry.{HistoryEntry}
 use Rattle.pay_node.proofs.judging.entries_under.Given as goal
 
 abbrev pub invariant-loop-entry : goal.invariant-loop-entry

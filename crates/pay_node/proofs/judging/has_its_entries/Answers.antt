@@ -1,6 +1,6 @@
 use Rattle.std.proofs.Common.{◌≡◌, eqb, List, drop, ap, ◌∙◌}
 use Rattle.std.specs.List.{count_by}
-use Rattle.pay_member.specs.declared.entry.HistoryEntry.{HistoryEntry}
+use Rattle.pay_member.specs.declared.event.HistoryEntry.{HistoryEntry}
 use Rattle.pay_node.specs.Receipts.{ReceiptFields}
 use Rattle.pay_node.specs.Receipts.{has_entry}
 use Rattle.pay_node.specs.Seats.{entries_told, entries_under, since}

@@ -1,5 +1,5 @@
 use Rattle.std.proofs.Common.{ℕ, slice_index_or, subst, rules}
-use Rattle.pay_peers.specs.declared.peer_reader.PeerReader.{PeerReader}
+use Rattle.pay_peers.specs.declared.feeding.PeerReader.{PeerReader}
 use Rattle.pay_peers.specs.Growing.{HasGrown}
 use Rattle.pay_peers.proofs.readers.run_readers.Goals as goal
 

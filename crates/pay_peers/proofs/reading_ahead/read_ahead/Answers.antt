@@ -1,7 +1,7 @@
 use Rattle.std.proofs.Common.{◌≡◌, ◌-◌, List, ℕ, [], Err, subst, rules}
-use Rattle.pay_engine.specs.declared.engine_fault.EngineFault.TheVariants.{Memory}
-use Rattle.pay_engine.specs.Handling.{Start}
-use Rattle.pay_peers.specs.declared.peer_reader.PeerReader.{PeerReader}
+use Rattle.pay_frame.specs.declared.engine.EngineFault.TheVariants.{Memory}
+use Rattle.pay_frame.specs.Handling.{Start}
+use Rattle.pay_peers.specs.declared.feeding.PeerReader.{PeerReader}
 use Rattle.pay_peers.specs.Ahead.{HasFedAhead, wants}
 use Rattle.pay_peers.specs.Window.{first_count, row_of}
 use Rattle.pay_peers.proofs.Fed.{first_is, nothing_fed}

@@ -4,13 +4,12 @@ use Rattle.std.proofs.lemmas.List.Elements.{All-append}
 use Rattle.std.specs.List.{All, flat_map}
 use Rattle.pay_link.specs.Keys.{KeyFields}
 use Rattle.pay_log.specs.Laws.{OneReading}
-use Rattle.pay_log.specs.Keys.{LogKeyFields}
 use Rattle.pay_log.specs.Logs.{IsLog, IsStray, IsWithOrWithout}
 use Rattle.pay_member.specs.Member.{MemberFields}
-use Rattle.pay_record.specs.Resuming.{IsOfRecords, LoggedFields, entries_of_logged, ids_of}
+use Rattle.pay_record.specs.Resuming.{IsOfRecords, entries_of_logged, ids_of}
 use Rattle.pay_record.specs.Laws.{OneList}
-use Rattle.pay_record.specs.Loggable.{IsLoggable, entry_form}
-use Rattle.pay_record.specs.Records.{record_of}
+use Rattle.pay_record.specs.Loggable.{IsLoggable}
+use Rattle.pay_record.specs.Records.{LoggedFields, record_of}
 use Rattle.pay_record.specs.Restarting.{HasLogged, WasWriting}
 use Rattle.pay_record.proofs.laws.written_is_resumed.Goals as goal
 
@@ -20,7 +19,7 @@ joined ps = flat_map (λ p. p) ps
 -- a member of the records of some entries has these
 same_entries :
     OneList → (k : KeyFields) (m : MemberFields) (ids : List ℕ) (qs : List (List ℕ)) (logged : List LoggedFields) → All (IsLoggable k) logged
-    → IsOfRecords (entry_form k) m ids qs → flat_map record_of logged ≡ flat_map (λ p. p) qs → HasLogged logged m ids
+    → IsOfRecords k m ids qs → flat_map record_of logged ≡ flat_map (λ p. p) qs → HasLogged logged m ids
 same_entries law k m ids qs logged loggable found is =
     let same : found.logged ≡ logged = law k found.logged logged found.loggable loggable (found.records ∙ sym is) in
     record {
@@ -37,9 +36,9 @@ both kept further ps is =
     ∙ ap (λ (l : List ℕ). flat_map (λ (p : List ℕ). p) ps ++ l) (sym (append-nil more)) ∙ sym (flat_map-append (λ (p : List ℕ). p) ps (more ∷ []))
 
 resumed :
-    OneList → OneReading → (k : KeyFields) (key : LogKeyFields) (header file : List ℕ) (kept further : List LoggedFields)
+    OneList → OneReading → (k : KeyFields) (key header file : List ℕ) (kept further : List LoggedFields)
     (was : WasWriting k key header file kept further) (m : MemberFields) (ids : List ℕ) (qs : List (List ℕ))
-    → IsLog key header file qs → IsOfRecords (entry_form k) m ids qs
+    → IsLog key header file qs → IsOfRecords k m ids qs
     → IsWithOrWithout key header was.ps (flat_map record_of further) file
     → HasLogged kept m ids ⊎ HasLogged (kept ++ further) m ids ⊎ IsStray key header was.ps (flat_map record_of further) file
 resumed law reading k key header file kept further was m ids qs log found (inl without) =

@@ -2,7 +2,7 @@ use Rattle.std.proofs.Common.{◌≡◌, ℕ, List, ◌∷◌, ◌++◌, length,
 use Rattle.std.specs.Int.{w16, w32, to_be_bytes}
 use Rattle.pay_frame.specs.Frame.{BodyFields}
 use Rattle.pay_record.specs.Loggable.{BodyStandsIn}
-use Rattle.pay_record.proofs.Compact.{body_stands, if_no_body, no_body_value, no_seq, no_vote, short_body}
+use Rattle.pay_record.proofs.Frames.{body_stands, if_no_body, no_body_value, no_seq, no_vote, short_body}
 use Rattle.pay_record.proofs.reading.body_in_front.Goals as goal
 
 pub returns-in_default : goal.returns-in_default

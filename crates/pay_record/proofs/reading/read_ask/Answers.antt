@@ -1,6 +1,6 @@
-use Rattle.std.proofs.Common.{◌≡◌, false, ℕ, List, ◌∷◌, ◌++◌, length, drop, Err, sym, ap, ◌∙◌, subst, arith}
+use Rattle.std.proofs.Common.{◌≡◌, ℕ, List, ◌∷◌, ◌++◌, length, drop, Err, sym, ap, ◌∙◌, subst, arith}
 use Rattle.std.specs.Int.{w16, w32, w64, to_be_bytes}
-use Rattle.pay_record.specs.Resuming.{LoggedFields}
+use Rattle.pay_record.specs.Records.{LoggedFields}
 use Rattle.pay_record.specs.Loggable.{StandsIn}
 use Rattle.pay_record.proofs.Inside.{no_value, short_ask}
 use Rattle.pay_record.proofs.Stands.{ask_entry, ask_stands, if_none, length-ask}
@@ -48,10 +48,9 @@ returns c =
     c.in-Some.ensures.some
     ∙ ap (λ (l : List ℕ). to_be_bytes w64 id ++ l) (c.in-Some-four.ensures.some
     ∙ ap (λ (l : List ℕ). to_be_bytes w32 seq ++ l) (c.in-Some-two.ensures.some ∙ ap (λ (l : List ℕ). to_be_bytes w16 len ++ l) found.2)) in
-    let logged : List ℕ → LoggedFields = λ v. record { entry = ask_entry c.args.stamp v seq; id = id; whole = false } in
+    let logged : List ℕ → LoggedFields = λ v. record { entry = ask_entry c.args.stamp v seq; id = id } in
     let made : value ≡ c.in_ok-new.field-0 = sym c.in_ok-new.ensures in
     let front : List ℕ = 1 ∷ to_be_bytes w16 c.args.stamp in (
-      false,
       subst (λ (v : List ℕ). StandsIn c.args.keys.now (front ++ c.args.fields.now) (logged v)) made
           (subst (λ (f : List ℕ). StandsIn c.args.keys.now (front ++ f) (logged value)) (sym is)
           (ask_stands c.args.keys.now c.args.stamp id seq len value more c.ranges.stamp.fits c.in-Some.ensures.range c.in-Some-four.ensures.range found.0 found.1)),

@@ -1,8 +1,8 @@
-use Rattle.std.proofs.Common.{◌≡◌, false, ℕ, List, ◌∷◌, ◌++◌, length, sym, ap, ◌∙◌, subst, arith}
+use Rattle.std.proofs.Common.{◌≡◌, ℕ, List, ◌∷◌, ◌++◌, length, sym, ap, ◌∙◌, subst, arith}
 use Rattle.std.specs.Int.{w16, w32, w64, to_be_bytes}
-use Rattle.pay_record.specs.Resuming.{LoggedFields}
+use Rattle.pay_record.specs.Records.{LoggedFields}
 use Rattle.pay_record.specs.Loggable.{StandsIn}
-use Rattle.pay_member.specs.declared.told.Told.{Told}
+use Rattle.pay_member.specs.declared.event.Told.{Told}
 use Rattle.pay_record.proofs.Inside.{short_query}
 use Rattle.pay_record.proofs.Stands.{length-query, query_entry, query_stands}
 use Rattle.pay_record.proofs.reading.read_query.Goals as goal
@@ -45,8 +45,7 @@ returns c =
     c.in-Some.ensures.some
     ∙ ap (λ (l : List ℕ). to_be_bytes w16 account ++ l) (c.in-Some-eight.ensures.some
     ∙ ap (λ (l : List ℕ). to_be_bytes w64 told.balance ++ l) (c.in-Some-four.ensures.some ∙ ap (λ (l : List ℕ). to_be_bytes w32 told.front ++ l) c.in-Some-four-2.ensures.some)) in
-    let logged : LoggedFields = record { entry = query_entry c.args.stamp account told; id = 0; whole = false } in (
-      false,
+    let logged : LoggedFields = record { entry = query_entry c.args.stamp account told; id = 0 } in (
       subst (λ (f : List ℕ). StandsIn c.args.keys.now ((3 ∷ to_be_bytes w16 c.args.stamp) ++ f) logged) (sym is)
           (query_stands c.args.keys.now c.args.stamp account told more c.ranges.stamp.fits c.in-Some.ensures.range c.in-Some-eight.ensures.range c.in-Some-four.ensures.range c.in-Some-four-2.ensures.range),
       length-query c.args.stamp account told,

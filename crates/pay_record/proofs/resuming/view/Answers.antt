@@ -1,70 +1,36 @@
-use Rattle.std.proofs.Common.{◌≡◌, ℕ, List, [], rules, ap, subst}
-use Rattle.std.specs.List.{flat_map}
+use Rattle.std.proofs.Common.{◌≡◌, ℕ, List, ap}
+use Rattle.std.proofs.Math.Path.{transport}
+use Rattle.pay_log.specs.Headers.{header_bytes}
+use Rattle.pay_log.specs.declared.header.Header.{Header}
 use Rattle.pay_member.specs.Member.{MemberFields}
-use Rattle.pay_record.specs.Resuming.{HasResumed, IsRefusedAt}
-use Rattle.pay_record.proofs.TakenOn.{all_taken, of_records, records_stay}
+use Rattle.pay_record.specs.Resuming.{IsLogOf}
+use Rattle.pay_record.specs.Starts.{fresh_member}
+use Rattle.pay_record.proofs.TakenOn.{is_log_of, taken_from_none}
 use Rattle.pay_record.proofs.resuming.view.Goals as goal
-
-pub returns-in_err-len-clause-illegal : goal.returns-in_err-len-clause-illegal
-returns-in_err-len-clause-illegal g c number said known =
-    let form = g.R.Records.form c.args.records.now in
-    let log = c.in_err-len.ensures.illegal number (search (rules, said)) known in
-    let found = log.refused in
-    let at = found.at in
-    let taken = all_taken found.at (record { records = c.args.records; member = c.args.member; ids = c.new.result }) found.before
-    (λ a b p. (b.records ≡ a.records) × HasResumed (g.R.Records.form a.records.now) a.member b.member a.ids.items b.ids.items p)
-    (λ s. s.member) (λ s. s.ids.items) (λ s. s.records.now) g.R.Records.form
-    (λ a b p t. ap (λ r. r.now) t.0) (λ a b p t. t.1) found.taken in
-    let empty : c.new.result.items ≡ [] = c.new.ensures.items in
-    let same = records_stay found.at (record { records = c.args.records; member = c.args.member; ids = c.new.result }) found.before
-    (λ a b p. (b.records ≡ a.records) × HasResumed (g.R.Records.form a.records.now) a.member b.member a.ids.items b.ids.items p)
-    (λ s. s.records.now) (λ a b p t. ap (λ r. r.now) t.0) found.taken in
-    record {
-      format = log.format;
-      before = found.before;
-      payload = found.payload;
-      headed = log.headed;
-      stands = found.stands;
-      at = at.member;
-      ids = at.ids.items;
-      taken = subst (λ (i : List ℕ). HasResumed form c.args.member at.member i at.ids.items (flat_map (λ p. p) found.before)) empty taken;
-      refused = subst (λ r. IsRefusedAt (g.R.Records.form r) at.member found.payload number) same found.refused;
-    }
 
 pub returns-clause-genesis : goal.returns-clause-genesis
 returns-clause-genesis g c =
     let fed = c.in_ok-len.ensures.fed in
-    let taken = all_taken c.read_log.new.sink (record { records = c.args.records; member = c.args.member; ids = c.new.result }) fed.0
-    (λ a b p. (b.records ≡ a.records) × HasResumed (g.R.Records.form a.records.now) a.member b.member a.ids.items b.ids.items p)
-    (λ s. s.member) (λ s. s.ids.items) (λ s. s.records.now) g.R.Records.form
-    (λ a b p t. ap (λ r. r.now) t.0) (λ a b p t. t.1) fed.1 in
+    let taken = taken_from_none c.read_log.new.sink c.in_ok-resuming.resuming fed.0 (λ s. s.member) (λ s. s.ids.items)
+    (fresh_member c.args.genesis.now c.args.keys.now) c.in_ok-resuming.ensures.member c.in_ok-resuming.ensures.ids fed.1 in
     ap (λ (m : MemberFields). m.genesis) taken.grown
 
 pub returns-clause-keys : goal.returns-clause-keys
 returns-clause-keys g c =
     let fed = c.in_ok-len.ensures.fed in
-    let taken = all_taken c.read_log.new.sink (record { records = c.args.records; member = c.args.member; ids = c.new.result }) fed.0
-    (λ a b p. (b.records ≡ a.records) × HasResumed (g.R.Records.form a.records.now) a.member b.member a.ids.items b.ids.items p)
-    (λ s. s.member) (λ s. s.ids.items) (λ s. s.records.now) g.R.Records.form
-    (λ a b p t. ap (λ r. r.now) t.0) (λ a b p t. t.1) fed.1 in
+    let taken = taken_from_none c.read_log.new.sink c.in_ok-resuming.resuming fed.0 (λ s. s.member) (λ s. s.ids.items)
+    (fresh_member c.args.genesis.now c.args.keys.now) c.in_ok-resuming.ensures.member c.in_ok-resuming.ensures.ids fed.1 in
     ap (λ (m : MemberFields). m.keys) taken.grown
 
 pub returns-clause-viewed : goal.returns-clause-viewed
 returns-clause-viewed g c known =
     let found = c.in_ok-len.ensures.read known in
-    let form = g.R.Records.form c.args.records.now in
+    let k = c.args.keys.now in
     let sink = c.read_log.new.sink in
-    let taken = all_taken c.read_log.new.sink (record { records = c.args.records; member = c.args.member; ids = c.new.result }) found.ps
-    (λ a b p. (b.records ≡ a.records) × HasResumed (g.R.Records.form a.records.now) a.member b.member a.ids.items b.ids.items p)
-    (λ s. s.member) (λ s. s.ids.items) (λ s. s.records.now) g.R.Records.form
-    (λ a b p t. ap (λ r. r.now) t.0) (λ a b p t. t.1) found.taken in
-    let empty : c.new.result.items ≡ [] = c.new.ensures.items in
-    let from_none = subst (λ (i : List ℕ). HasResumed form c.args.member sink.member i sink.ids.items (flat_map (λ p. p) found.ps)) empty taken in (
+    let file : List ℕ = g.D.Device.seen c.args.device.now in
+    let P : List ℕ → Header → Type 0 = λ b h. IsLogOf k b (header_bytes h) file (record { member = sink.member; ids = sink.ids.items; len = c.in_ok-len.len }) found.ps in (
       found.ps,
-      record {
-        format = found.format;
-        was = found.log;
-        size = found.size;
-        records = of_records form c.args.member sink.member sink.ids.items found.ps c.requires from_none;
-      },
+      transport (λ i. P (c.in_ok-key.ensures i) (c.in_ok-header.ensures i))
+          (is_log_of (λ s. s.member) (λ s. s.ids.items) c.args.genesis.now k c.in_ok-resuming.resuming sink _ _ file c.in_ok-len.len
+          c.in_ok-resuming.ensures.member c.in_ok-resuming.ensures.ids found),
     )

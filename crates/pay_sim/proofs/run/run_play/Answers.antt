@@ -1,5 +1,5 @@
 use Rattle.std.proofs.Common.{◌≡◌, true, false, Ok, Err, sym, subst, ap, ◌∙◌, rules}
-use Rattle.pay_sim.specs.declared.sim_end.SimEnd.{SimEnd}
+use Rattle.pay_sim.specs.declared.run.SimEnd.{SimEnd}
 use Rattle.pay_sim.specs.Script.{WritesRun, end_of}
 use Rattle.pay_sim.proofs.Whole.{breaks, breaks_empty, ends, ends_empty}
 use Rattle.pay_sim.proofs.run.run_play.Goals as goal

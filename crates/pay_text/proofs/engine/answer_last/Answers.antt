@@ -1,6 +1,6 @@
 use Rattle.std.proofs.Common.{◌≡◌, ◌∷◌, [], List, ℕ, ap, subst, ◌∙◌, inl, inr}
 use Rattle.std.specs.Prelude.{OnOk}
-use Rattle.pay_io.specs.Device.{next_count}
+use Rattle.pay_frame.specs.Device.{next_count}
 use Rattle.pay_text.specs.Outbox.{PutsSome}
 use Rattle.pay_text.proofs.Waiting.{goes_written, waiting}
 use Rattle.pay_text.proofs.Answering.{answering}

@@ -1,7 +1,7 @@
 use Rattle.std.proofs.Common.{◌≡◌, ◌++◌, Err, rules, arith}
 use Rattle.std.proofs.lemmas.Grind.{common_steps}
-use Rattle.pay_io.specs.Device.{WroteBeginning}
-use Rattle.pay_io.specs.declared.stream_fault.StreamFault.TheVariants.{Memory, Write}
+use Rattle.pay_frame.specs.Device.{WroteBeginning}
+use Rattle.pay_frame.specs.declared.device.StreamFault.TheVariants.{Memory, Write}
 use Rattle.pay_text.specs.Answers.{text_bytes}
 use Rattle.pay_text.specs.Outbox.{Puts}
 use Rattle.pay_text.proofs.Waiting.{one_put, one_refused, one_broken_off}

@@ -1,7 +1,7 @@
 use Rattle.std.proofs.Common.{◌≡◌, [], Ok, Err, true, false, rules, arith, sym, ◌∙◌, take, length-take}
 use Rattle.std.proofs.lemmas.Grind.{common_steps}
 use Rattle.std.specs.Io.KnownBytes.{Consumes, IsAtEnd}
-use Rattle.pay_io.specs.declared.stream_fault.StreamFault.{StreamFault}
+use Rattle.pay_frame.specs.declared.device.StreamFault.{StreamFault}
 use Rattle.pay_text.specs.Cutting.{is_nothing}
 use Rattle.pay_text.proofs.Rounds.{ends_empty, last_goes, last_writes, piece_goes, goes_on}
 use Rattle.pay_text.proofs.engine.read_once.Goals as goal

@@ -1,7 +1,7 @@
 use Rattle.std.proofs.Common.{◌≡◌, ℕ, Ok, Err, rules, sym, ap, subst, arith}
 use Rattle.std.proofs.lemmas.Grind.{common_steps}
-use Rattle.pay_io.specs.declared.stream_fault.StreamFault.{StreamFault}
-use Rattle.pay_io.specs.declared.stream_fault.StreamFault.TheVariants.{Memory}
+use Rattle.pay_frame.specs.declared.device.StreamFault.{StreamFault}
+use Rattle.pay_frame.specs.declared.device.StreamFault.TheVariants.{Memory}
 use Rattle.pay_text.specs.Cutting.{Begun}
 use Rattle.pay_text.specs.Engine.{IsGoing, WritesByEnd}
 use Rattle.pay_text.proofs.Answering.{intake, answering, said_by}

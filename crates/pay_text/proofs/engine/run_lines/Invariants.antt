@@ -1,5 +1,5 @@
 use Rattle.std.proofs.Common.{◌≡◌, [], ◌+◌, ◌≤◌}
-use Rattle.pay_io.specs.Device.{RoseBy}
+use Rattle.pay_frame.specs.Device.{RoseBy}
 use Rattle.pay_text.specs.Engine.{IsGoing}
 use Rattle.pay_text.proofs.Answering.{intake, said_by}
 use Rattle.pay_text.proofs.engine.run_lines.Given as goal

@@ -1,6 +1,6 @@
 use Rattle.std.proofs.Common.{◌≡◌, ℕ, ◌<◌, List, [], ◌∷◌, length, Option, Some, option_map, refl, ap, arith}
 use Rattle.std.specs.List.{filter_map}
-use Rattle.pay_frame.specs.declared.kind.Kind.TheVariants.{Send, Want}
+use Rattle.pay_frame.specs.declared.body.Kind.TheVariants.{Send, Want}
 use Rattle.pay_frame.specs.Frame.{FrameFields, IsFrame, frame_bytes}
 use Rattle.pay_frame.specs.OneFrame.{IsOneFrame}
 use Rattle.pay_channel.specs.History.{Ask, From, asks, body_of}

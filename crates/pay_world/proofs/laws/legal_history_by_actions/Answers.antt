@@ -3,7 +3,7 @@ use Rattle.pay_link.specs.Genesis.{GenesisFields}
 use Rattle.pay_link.specs.Keys.{KeyFields, IsKeysOf}
 use Rattle.pay_member.specs.declared.event.Event.{Event as MemberEvent}
 use Rattle.pay_member.specs.declared.event.Event.TheVariants.{Ask, Taken, Query}
-use Rattle.pay_member.specs.declared.entry.HistoryEntry.{HistoryEntry}
+use Rattle.pay_member.specs.declared.event.HistoryEntry.{HistoryEntry}
 use Rattle.pay_member.specs.Events.{channel_event, events}
 use Rattle.pay_member.specs.Refusal.{refusal}
 use Rattle.pay_member.specs.Legal.{IsStorable}

@@ -2,9 +2,9 @@ use Rattle.std.proofs.Common.{◌≡◌, List, [], ◌∷◌, ◌++◌, length, 
 use Rattle.std.proofs.lemmas.Grind.{common_steps}
 use Rattle.std.specs.Vec.Iter.{into_iter_items}
 use Rattle.pay_world.specs.declared.event.WorldEvent.{WorldEvent}
-use Rattle.pay_world.specs.declared.fault.WorldFault.{WorldFault}
-use Rattle.pay_world.specs.declared.fault.WorldFault.TheVariants.{Memory, Forged}
-use Rattle.pay_world.specs.declared.reply.WorldReply.{WorldReply}
+use Rattle.pay_world.specs.declared.event.WorldFault.{WorldFault}
+use Rattle.pay_world.specs.declared.event.WorldFault.TheVariants.{Memory, Forged}
+use Rattle.pay_world.specs.declared.event.WorldReply.{WorldReply}
 use Rattle.pay_world.specs.Headline.{Headline}
 use Rattle.pay_world.specs.Liars.{setting_of}
 use Rattle.pay_world.specs.World.{IsWorld, fresh_world}

@@ -1,7 +1,7 @@
 use Rattle.std.proofs.Common.{Some, option_map, sym, ap, ◌∙◌}
 use Rattle.pay_link.specs.Checked.{bytes_of}
 use Rattle.pay_world.specs.declared.event.WorldEvent.TheVariants.{Bring}
-use Rattle.pay_world.specs.declared.reply.WorldReply.TheVariants.{Brought}
+use Rattle.pay_world.specs.declared.event.WorldReply.TheVariants.{Brought}
 use Rattle.pay_world.specs.Answer.{member_after}
 use Rattle.pay_world.proofs.world.pass_place.Goals as goal
 

@@ -1,6 +1,6 @@
 use Rattle.std.proofs.Common.{rules, ◌≡◌, ℕ, List, subst, sym}
 use Rattle.pay_audit.specs.Export.{export_in}
-use Rattle.pay_audit.specs.declared.export_fault.ExportFault.TheVariants.{Memory}
+use Rattle.pay_audit.specs.declared.exported.ExportFault.TheVariants.{Memory}
 use Rattle.payd.specs.declared.stop.Stop.TheVariants.{Export}
 use Rattle.payd.proofs.Said.{fault_said}
 use Rattle.payd.proofs.files.export_of.Goals as goal

@@ -1,5 +1,5 @@
 use Rattle.std.proofs.Common.{rules, arith, ◌≡◌, ◌≤◌, length, length-append, [], ◌∷◌, ◌++◌, Err, drop, refl, inl}
-use Rattle.pay_engine.specs.declared.engine_fault.EngineFault.TheVariants.{Memory}
+use Rattle.pay_frame.specs.declared.engine.EngineFault.TheVariants.{Memory}
 use Rattle.payd.specs.declared.stop.Stop.TheVariants.{Engine}
 use Rattle.std.proofs.lemmas.List.{drop_all}
 use Rattle.payd.proofs.Exports.{at_end, goes_on, some_name, stops_at}

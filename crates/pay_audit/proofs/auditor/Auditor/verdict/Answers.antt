@@ -1,5 +1,5 @@
 use Rattle.std.proofs.Common.{rules, ◌≡◌, None, unwrap_or, ap, sym, ◌∙◌}
-use Rattle.pay_audit.specs.declared.verdict.Verdict.TheVariants.{Clean}
+use Rattle.pay_audit.specs.declared.auditing.Verdict.TheVariants.{Clean}
 use Rattle.pay_audit.proofs.Taking.{of_fork}
 use Rattle.pay_audit.proofs.auditor.Auditor.verdict.Goals as goal
 

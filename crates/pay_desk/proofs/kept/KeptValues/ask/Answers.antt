@@ -1,6 +1,6 @@
 use Rattle.std.proofs.Common.{ℕ, List, ap, map, ◌∙◌, ◌∷◌, [], ◌++◌, arith}
 use Rattle.std.proofs.lemmas.Grind.{common_steps}
-use Rattle.pay_desk.specs.declared.by_id.ById.{ById}
+use Rattle.pay_desk.specs.declared.kept.ById.{ById}
 use Rattle.pay_desk.specs.Kept.{kept_under}
 use Rattle.pay_desk.proofs.Finding.{kept_behind, kept_of}
 use Rattle.pay_desk.proofs.kept.KeptValues.ask.Goals as goal

@@ -1,5 +1,5 @@
 use Rattle.std.proofs.Common.{ap, map, ◌∙◌, ◌∷◌, [], ◌++◌}
-use Rattle.pay_desk.specs.declared.by_id.ById.{ById}
+use Rattle.pay_desk.specs.declared.kept.ById.{ById}
 use Rattle.pay_desk.specs.Kept.{kept_under}
 use Rattle.pay_desk.proofs.Finding.{kept_behind, kept_of}
 use Rattle.pay_desk.proofs.kept.KeptValues.keep.Goals as goal

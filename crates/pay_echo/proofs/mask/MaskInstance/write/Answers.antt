@@ -5,7 +5,7 @@ use Rattle.pay_echo.specs.Meaning.{Meaning}
 use Rattle.pay_echo.specs.Plain.{AreDistinct}
 use Rattle.pay_echo.specs.Votes.{vote_of_ref}
 use Rattle.pay_echo.specs.Step.{vote_before, put_echo, put_ready, put_if, with_moves}
-use Rattle.pay_echo.specs.declared.moves.Moves.{Moves}
+use Rattle.pay_echo.specs.declared.instance.Moves.{Moves}
 use Rattle.pay_echo.proofs.MaskLemmas.{counted-IsCounted, counted-view, before-place}
 use Rattle.pay_echo.proofs.mask.MaskInstance.write.Goals as goal
 

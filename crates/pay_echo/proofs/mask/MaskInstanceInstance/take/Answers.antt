@@ -1,7 +1,7 @@
 use Rattle.std.proofs.Common.{◌≡◌, ◌&&◌, not, is_none, sym, ap, ◌∙◌}
 use Rattle.std.proofs.lemmas.Result.{on_ok_weaker}
 use Rattle.pay_echo.specs.Votes.{vote_of_ref}
-use Rattle.pay_echo.specs.declared.moves.Moves.{Moves}
+use Rattle.pay_echo.specs.declared.instance.Moves.{Moves}
 use Rattle.pay_echo.proofs.Clauses.{Sees-again, Sees-told}
 use Rattle.pay_echo.proofs.MaskLemmas.{Foresees-own}
 use Rattle.pay_echo.proofs.mask.MaskInstanceInstance.take.Goals.{then-moves, else-moves}

@@ -5,7 +5,7 @@ use Rattle.std.proofs.lemmas.List.{length-map}
 use Rattle.std.proofs.lemmas.List.Sums.{count_by-le-length}
 use Rattle.pay_echo.specs.Plain.{is_at}
 use Rattle.pay_echo.specs.Masks.{TallyFields, vote_places}
-use Rattle.pay_echo.specs.declared.candidate.Candidate.{Candidate}
+use Rattle.pay_echo.specs.declared.tally.Candidate.{Candidate}
 use Rattle.pay_echo.proofs.Candidates.{count-at_place}
 use Rattle.pay_echo.proofs.tally.Tally.count.Goals as goal
 

@@ -1,7 +1,7 @@
 use Rattle.std.proofs.Common.{◌≡◌, length, get_or, ap, ◌∙◌, sym, arith}
 use Rattle.std.specs.Prelude.{None, is_some}
 use Rattle.pay_echo.specs.Masks.{TallyFields, masks_of, vote_places}
-use Rattle.pay_echo.specs.declared.vote_kind.VoteKind.TheVariants as kind
+use Rattle.pay_echo.specs.declared.instance.VoteKind.TheVariants as kind
 use Rattle.pay_echo.proofs.MaskVotes.{votes_by-at}
 use Rattle.pay_echo.proofs.Candidates.{length-places}
 use Rattle.pay_echo.proofs.tally.Tally.has_voted.Goals as goal

@@ -1,7 +1,7 @@
 use Rattle.std.proofs.Common.{ap, ◌∙◌, sym, subst, List}
 use Rattle.pay_echo.specs.Masks.{votes_by, masks_of, IsTally}
-use Rattle.pay_echo.specs.declared.candidate.Candidate.{Candidate}
-use Rattle.pay_echo.specs.declared.vote_kind.VoteKind.TheVariants as kind
+use Rattle.pay_echo.specs.declared.tally.Candidate.{Candidate}
+use Rattle.pay_echo.specs.declared.instance.VoteKind.TheVariants as kind
 use Rattle.pay_echo.proofs.MaskVotes.{votes_by-none}
 use Rattle.pay_echo.proofs.Candidates.{IsTally-none}
 use Rattle.pay_echo.proofs.tally.Tally.new.Goals as goal

@@ -2,7 +2,7 @@ use Rattle.std.proofs.Common.{◌≡◌, length, refl, sym, ◌∙◌, ap, Some,
 use Rattle.std.specs.Prelude.{slice_get}
 use Rattle.std.specs.Str.{bytes_eq}
 use Rattle.std.proofs.lemmas.Option.{slice_get_read, slice_get_within}
-use Rattle.pay_echo.specs.declared.candidate.Candidate.{Candidate}
+use Rattle.pay_echo.specs.declared.tally.Candidate.{Candidate}
 use Rattle.pay_echo.proofs.Lists.{bytes_eq-true}
 use Rattle.pay_echo.proofs.Places.{absent-more}
 use Rattle.pay_echo.proofs.Candidates.{value-there, shown-values}

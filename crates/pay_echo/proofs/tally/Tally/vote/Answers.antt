@@ -1,8 +1,8 @@
 use Rattle.std.proofs.Common.{◌<◌, length, ap, ◌∙◌, sym, arith}
 use Rattle.std.specs.Prelude.{None, slice_index_or}
 use Rattle.pay_echo.specs.Masks.{TallyFields, vote_places, with_place}
-use Rattle.pay_echo.specs.declared.vote_kind.VoteKind.{VoteKind}
-use Rattle.pay_echo.specs.declared.vote_kind.VoteKind.TheVariants as kind
+use Rattle.pay_echo.specs.declared.instance.VoteKind.{VoteKind}
+use Rattle.pay_echo.specs.declared.instance.VoteKind.TheVariants as kind
 use Rattle.pay_echo.proofs.Candidates.{shown-members, shown-values, IsTally-echo, tally_by-echo, IsTally-ready, tally_by-ready}
 use Rattle.pay_echo.proofs.tally.Tally.vote.Goals as goal
 

@@ -4,8 +4,8 @@ use Rattle.pay_frame.specs.declared.limits.TheConstants.{GREATEST_VALUE, SEQS}
 use Rattle.pay_channel.specs.History as channel
 use Rattle.pay_channel.specs.History.{asks}
 use Rattle.pay_member.specs.declared.event.Event.TheVariants.{Ask}
-use Rattle.pay_member.specs.declared.reply.Reply.TheVariants.{Asked}
-use Rattle.pay_member.specs.declared.entry.HistoryEntry.{HistoryEntry}
+use Rattle.pay_member.specs.declared.event.Reply.TheVariants.{Asked}
+use Rattle.pay_member.specs.declared.event.HistoryEntry.{HistoryEntry}
 use Rattle.pay_member.specs.Events.{events}
 use Rattle.pay_member.specs.Ledger.{Grows}
 use Rattle.pay_member.specs.Member.{MemberFields, IsMember}

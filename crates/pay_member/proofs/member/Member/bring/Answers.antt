@@ -2,7 +2,7 @@ use Rattle.std.proofs.Common.{Err, Ok, sym, ap, ◌∙◌, subst}
 use Rattle.std.specs.Prelude.{IfSome}
 use Rattle.pay_frame.specs.Lent.{fields_of}
 use Rattle.pay_link.specs.Keys.{KeyFields, IsPeer}
-use Rattle.pay_member.specs.declared.brought.Brought.{Brought}
+use Rattle.pay_member.specs.declared.bringing.Brought.{Brought}
 use Rattle.pay_member.specs.Bringing.{incoming_at, with_want}
 use Rattle.pay_member.specs.Events.{events}
 use Rattle.pay_member.specs.Member.{MemberFields}

@@ -3,8 +3,8 @@ use Rattle.pay_frame.specs.Lent.{fields_of}
 use Rattle.pay_frame.specs.Frame.{FrameFields}
 use Rattle.pay_channel.specs.Taken.{next}
 use Rattle.pay_link.specs.Keys.{KeyFields}
-use Rattle.pay_member.specs.declared.incoming.Incoming.TheVariants.{Message, Want}
-use Rattle.pay_member.specs.declared.received.Received.{Received}
+use Rattle.pay_member.specs.declared.bringing.Incoming.TheVariants.{Message, Want}
+use Rattle.pay_member.specs.declared.ledger.Received.{Received}
 use Rattle.pay_member.specs.Bringing.{incoming_at, with_want}
 use Rattle.pay_member.specs.Events.{events}
 use Rattle.pay_member.specs.Serving.{after_frame}

@@ -1,6 +1,6 @@
 use Rattle.std.proofs.Common.{rules, ◌≡◌, ℕ, List, Option, None, replicate, sym, ap, ◌∙◌, subst}
-use Rattle.pay_member.specs.declared.entry.HistoryEntry.{HistoryEntry}
-use Rattle.pay_member.specs.declared.lie.Lie.{Lie}
+use Rattle.pay_member.specs.declared.event.HistoryEntry.{HistoryEntry}
+use Rattle.pay_member.specs.declared.ledger.Lie.{Lie}
 use Rattle.pay_member.specs.Member.{IsMember}
 use Rattle.pay_member.proofs.Members.{member_fresh}
 use Rattle.pay_member.proofs.LiesFound.{found_at_first}

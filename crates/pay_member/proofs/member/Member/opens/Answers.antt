@@ -1,7 +1,7 @@
 use Rattle.std.proofs.Common.{◌≡◌, Err, Ok, sym, ◌∙◌, subst}
 use Rattle.pay_frame.specs.Lent.{fields_of}
 use Rattle.pay_link.specs.Keys.{KeyFields}
-use Rattle.pay_member.specs.declared.incoming.Incoming.TheVariants.{Message, Want}
+use Rattle.pay_member.specs.declared.bringing.Incoming.TheVariants.{Message, Want}
 use Rattle.pay_member.specs.Bringing.{incoming_at}
 use Rattle.pay_member.proofs.Openings.{fault_in, frame_in, message_in, no_frame_in, opened, want_in}
 use Rattle.pay_member.proofs.member.Member.opens.Goals as goal

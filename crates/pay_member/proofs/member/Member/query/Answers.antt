@@ -1,9 +1,9 @@
 use Rattle.std.proofs.Common.{◌≡◌, ◌<◌, List, [], ◌∷◌, ◌++◌, arith, refl, sym, ap, ◌∙◌, subst}
 use Rattle.std.proofs.lemmas.Grind.{common_steps}
 use Rattle.pay_member.specs.declared.event.Event.TheVariants.{Query}
-use Rattle.pay_member.specs.declared.reply.Reply.TheVariants as reply
-use Rattle.pay_member.specs.declared.entry.HistoryEntry.{HistoryEntry}
-use Rattle.pay_member.specs.declared.told.Told.{Told}
+use Rattle.pay_member.specs.declared.event.Reply.TheVariants as reply
+use Rattle.pay_member.specs.declared.event.HistoryEntry.{HistoryEntry}
+use Rattle.pay_member.specs.declared.event.Told.{Told}
 use Rattle.pay_member.specs.Events.{events}
 use Rattle.pay_member.specs.Reply.{told_of}
 use Rattle.pay_member.specs.Member.{MemberFields, IsMember}

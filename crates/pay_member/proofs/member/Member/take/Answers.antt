@@ -9,14 +9,14 @@ use Rattle.pay_channel.specs.Lies.{is_lie_to}
 use Rattle.pay_channel.specs.Taken.{next}
 use Rattle.pay_link.specs.Checked.{IsFor}
 use Rattle.pay_member.specs.declared.event.Event.TheVariants.{Taken}
-use Rattle.pay_member.specs.declared.reply.Reply.TheVariants as reply
-use Rattle.pay_member.specs.declared.entry.HistoryEntry.{HistoryEntry}
+use Rattle.pay_member.specs.declared.event.Reply.TheVariants as reply
+use Rattle.pay_member.specs.declared.event.HistoryEntry.{HistoryEntry}
 use Rattle.pay_member.specs.Events.{events}
 use Rattle.pay_member.specs.Refusal.{refusal}
 use Rattle.pay_member.specs.Reply.{took_by}
 use Rattle.pay_member.specs.Ledger.{Grows}
 use Rattle.pay_member.specs.Member.{MemberFields, IsMember}
-use Rattle.pay_member.specs.declared.lie.Lie.{Lie}
+use Rattle.pay_member.specs.declared.ledger.Lie.{Lie}
 use Rattle.pay_member.specs.Lies.{AreFound, lie_of, with_lie}
 use Rattle.pay_member.proofs.Ledgers.{took_is}
 use Rattle.pay_member.proofs.LiesFound.{found_taken}

@@ -17,5 +17,5 @@ prove-unreachable-requires g c =
 pub invariant_of-self : goal.invariant_of-self
 invariant_of-self g c =
     let r : ReplayFields = record { member = c.self.inside.member.now; taken = c.self.inside.taken } in
-    replay_queried r c.self.inside.ledger c.self.inside.fronts (Query c.args.account) c.self.invariant c.history-entries.ensures.legal
+    replay_queried r c.self.inside.ledger c.self.inside.fronts c.self.inside.lies.items (Query c.args.account) c.self.invariant c.history-entries.ensures.legal
     (subst (IsQueryNext c.args.account) (sym c.self.view_is) c.requires) refl

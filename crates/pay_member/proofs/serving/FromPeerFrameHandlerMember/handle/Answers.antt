@@ -2,7 +2,7 @@ use Rattle.std.proofs.Common.{◌≡◌, sym, ap, ◌∙◌, subst}
 use Rattle.std.specs.Prelude.{IfSome}
 use Rattle.pay_frame.specs.Lent.{fields_of}
 use Rattle.pay_link.specs.Keys.{KeyFields, IsPeer}
-use Rattle.pay_member.specs.declared.brought.Brought.{Brought}
+use Rattle.pay_member.specs.declared.bringing.Brought.{Brought}
 use Rattle.pay_member.specs.Bringing.{with_want}
 use Rattle.pay_member.specs.Member.{MemberFields}
 use Rattle.pay_member.specs.Serving.{bytes_if_any, want_of}

@@ -1,7 +1,7 @@
 use Rattle.std.proofs.Common.{◌≡◌, ◌<◌, ◌≤◌, true, false, ◌&&◌, ltb, eqb, length, arith, ap, ◌∙◌, subst}
 use Rattle.pay_channel.specs.State.{channel_lists}
 use Rattle.pay_book.specs.Places.{Place, place_of}
-use Rattle.pay_member.specs.declared.standing.PaymentState.TheVariants.{Unknown, Asked, Waiting, Settled}
+use Rattle.pay_member.specs.declared.question.PaymentState.TheVariants.{Unknown, Asked, Waiting, Settled}
 use Rattle.pay_member.specs.Events.{events}
 use Rattle.pay_member.specs.Reading.{state_of}
 use Rattle.pay_member.specs.Member.{MemberFields}

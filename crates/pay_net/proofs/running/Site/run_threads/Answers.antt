@@ -1,7 +1,8 @@
-use Rattle.std.proofs.Common.{◌≡◌, ◌*◌, ◌-◌, arith, length, map, rules}
-use Rattle.pay_net.specs.Running.{desk_start, desk_streams, peers_of}
+use Rattle.std.proofs.Common.{◌≡◌, length, map, rules}
+use Rattle.pay_net.specs.Desks.{desk_streams}
+use Rattle.pay_net.specs.Running.{peers_of}
 use Rattle.pay_net.proofs.Endings.{counts_failed, desk_fault}
-use Rattle.pay_net.proofs.Seatings.{all_fresh, all_of, desk_failed, has_run, peers_same}
+use Rattle.pay_net.proofs.Seatings.{all_fresh, desk_failed, has_run, peers_same}
 use Rattle.pay_net.proofs.Workings.{ends_in_reader, grown_to, last_worked}
 use Rattle.pay_net.proofs.running.Site.run_threads.Goals as goal
 
@@ -18,19 +19,15 @@ returns-in-Ok-clause-ran g c =
     let peers : map (λ r. r.0) c.in_ok-seats.seats.readers.items ≡ peers_of c.args.node.now.keys =
     peers_same c.args.node.now.keys c.own-own.result c.members-members.result _ seated.peers (search rules) (search rules) in
     let worked = last_worked c.in_ok-seats.seats.readers c.in_ok-workers.ensures.0 _ _ c.in_ok-workers.ensures.1 c.serve-desk.ensures.workers in
-    let members : c.members-members.result ≡ length c.args.node.now.keys.keys = search rules in
-    let count : 2 * c.members-members.result - 1 ≡ c.args.node.now.seats = omega arith in
-    has_run _ _ c.args.seats.items _ c.in_ok-seats.seats.desk c.serve-desk.result.0 _ _ _ _ _ c.requires.fresh seated.desk peers seated.fresh
-    (grown_to _ _ _ worked c.readers_of.ensures) c.in_ok-gather_seats-in-Ok.ensures.parts
-    (all_of _ _ _ count c.in_ok-gather_seats-in-Ok.ensures.stamped) c.in-Ok.is c.serve-desk.ensures.served
+    has_run _ _ _ c.serve-desk.result.0 _ _ _ _ _ peers seated.fresh
+    (grown_to _ _ _ worked c.readers_of.ensures) c.in_ok-gather_seats-in-Ok.ensures c.in-Ok.is c.serve-desk.ensures.served
 
 pub returns-clause-ran : goal.returns-clause-ran
 returns-clause-ran g c =
-    let seated = c.in_ok-seats.ensures in
-    desk_fault c.args.node.now (desk_start c.args.kept c.args.self.now.config.now.socket) c.args.self.now.config.now.ports.now
+    desk_fault c.args.node.now _ c.args.self.now.config.now.ports.now
     (desk_streams (g.In.Input.remaining c.args.reader.now) (g.In.Input.remaining c.serve-desk.new.reader)
     (g.Out.Output.contents c.args.writer.now) (g.Out.Output.contents c.serve-desk.new.writer)) c.in-Err.fault
-    (desk_failed _ _ c.args.seats.items seated.desk.0 c.in_ok-seats.seats.desk c.serve-desk.result.0 _ _ _ c.requires.fresh seated.desk.1 c.in-Err.is c.serve-desk.ensures.served)
+    (desk_failed _ c.serve-desk.result.0 _ _ _ c.in-Err.is c.serve-desk.ensures.served)
 
 pub returns-clause-reads : goal.returns-clause-reads
 returns-clause-reads g c =

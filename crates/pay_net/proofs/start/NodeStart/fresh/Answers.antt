@@ -1,5 +1,5 @@
 use Rattle.std.proofs.Common.{List, [], subst, sym, rules, ◌≡◌}
-use Rattle.pay_member.specs.declared.entry.HistoryEntry.{HistoryEntry}
+use Rattle.pay_member.specs.declared.event.HistoryEntry.{HistoryEntry}
 use Rattle.pay_net.specs.Starting.{IsKeptOf}
 use Rattle.pay_net.proofs.Starts.{nothing_kept}
 use Rattle.pay_net.proofs.start.NodeStart.fresh.Goals as goal

@@ -1,7 +1,7 @@
 use Rattle.std.proofs.Common.{rules, ◌≡◌, ◌<◌, ◌^◌, IfOk, List, length, subst}
-use Rattle.pay_member.specs.declared.entry.HistoryEntry.{HistoryEntry}
+use Rattle.pay_member.specs.declared.event.HistoryEntry.{HistoryEntry}
 use Rattle.pay_member.specs.declared.event.Event.TheVariants.{Taken}
-use Rattle.pay_member.specs.declared.reply.Reply.TheVariants as reply
+use Rattle.pay_member.specs.declared.event.Reply.TheVariants as reply
 use Rattle.pay_member.specs.Answer.{IsAnswer, answer_of_take}
 use Rattle.pay_member.specs.Member.{with_entry}
 use Rattle.pay_node.proofs.Counted.{has_next}

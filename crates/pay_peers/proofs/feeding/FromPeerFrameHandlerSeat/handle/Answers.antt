@@ -1,6 +1,6 @@
 use Rattle.std.proofs.Common.{◌≡◌, [], Err, inr, refl, sym, ap, ◌∙◌, append-nil, rules}
 use Rattle.pay_frame.specs.Lent.{fields_of}
-use Rattle.pay_member.specs.declared.brought.Brought.{Brought}
+use Rattle.pay_member.specs.declared.bringing.Brought.{Brought}
 use Rattle.pay_member.specs.Bringing.{with_want}
 use Rattle.pay_member.specs.Serving.{bytes_if_any}
 use Rattle.pay_peers.proofs.feeding.FromPeerFrameHandlerSeat.handle.Goals as goal

@@ -3,8 +3,8 @@ use Rattle.std.proofs.lemmas.Grind.{common_steps}
 use Rattle.std.proofs.lemmas.Option.{slice_get-get_or}
 use Rattle.pay_world.specs.declared.event.WorldEvent.TheVariants.{Ask}
 use Rattle.pay_world.specs.Setting.{HasFewFaulty}
-use Rattle.pay_world.specs.declared.fault.WorldFault.TheVariants.{Memory}
-use Rattle.pay_world.specs.declared.reply.WorldReply.TheVariants.{Ignored}
+use Rattle.pay_world.specs.declared.event.WorldFault.TheVariants.{Memory}
+use Rattle.pay_world.specs.declared.event.WorldReply.TheVariants.{Ignored}
 use Rattle.pay_world.specs.World.{WorldFields, member_in, setting_in}
 use Rattle.pay_world.specs.Answer.{AnswersEvent, IsTakenBy}
 use Rattle.pay_world.proofs.Forging.{on_fault}

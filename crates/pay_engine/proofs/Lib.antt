@@ -1,2 +1,0 @@
-pub mod Handlings
-pub mod Exactly

@@ -1,3 +1,0 @@
-pub mod EngineFault
-pub mod Handling
-pub mod Exact

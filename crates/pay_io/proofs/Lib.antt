@@ -1,2 +1,0 @@
-pub mod Slides
-pub mod Written

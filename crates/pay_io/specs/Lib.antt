@@ -1,5 +1,0 @@
-pub mod Counts
-pub mod Device
-pub mod Sliding
-pub mod SlidingFields
-pub mod StreamFault

@@ -1,5 +1,0 @@
-use Rattle.pay_log_tests.proofs.kept.live_once.Given as goal
-
--- the member
-abbrev pub ghosts-pay_next : goal.ghosts-pay_next
-ghosts-pay_next g a = record { beginning = a.member }

@@ -1,6 +1,0 @@
-use Rattle.std.proofs.Common.{◌≡◌, length}
-use Rattle.pay_node.specs.Judging.{CountedConsistent}
-use Rattle.pay_node.proofs.once.count_here.Given as goal
-
-abbrev pub invariant-loop-k : goal.invariant-loop-k
-invariant-loop-k l = CountedConsistent l.replay.member l.seats l.counts × (length l.counts ≡ length l.seats)
