@@ -1,18 +1,15 @@
 """What the benches share: the words that they are called with, programs, and what a run of one uses."""
 
 import argparse
+import functools
 import os
-import re
 import subprocess
 import sys
+import time
 
-sys.dont_write_bytecode = True
+from payd_tools.repository import building
 
 TOP = os.path.dirname(os.path.dirname(os.path.realpath(__file__)))
-TICKS = os.sysconf("SC_CLK_TCK")
-sys.path[:0] = [os.path.join(TOP, it) for it in ("examples", "tests/models", "tests/support", "tools")]
-
-import building  # noqa: E402
 
 
 def read_numbers(text, usual, quick):
@@ -36,6 +33,7 @@ def chosen():
     return os.environ.setdefault("PAYD_PROGRAM", path), said
 
 
+@functools.lru_cache(None)
 def program(name):
     """The path of a crate's program, which is proved and built first."""
     folder = os.path.join(TOP, "crates", name)
@@ -43,37 +41,36 @@ def program(name):
     return os.path.join(folder, "out", name)
 
 
-def used_by(words, source=os.devnull):
-    """What a run used of processors and memory."""
+def processor_seconds(words, source=os.devnull):
+    """What a run used of processors."""
     with open(source, "rb") as stream:
         started = subprocess.Popen(words, stdin=stream, stdout=subprocess.DEVNULL)
         _, status, used = os.wait4(started.pid, 0)
     if status != 0:
         sys.exit(f"'{' '.join(words)}' ended with status {os.waitstatus_to_exitcode(status)}")
-    return used
-
-
-def processor_seconds(words, source=os.devnull):
-    used = used_by(words, source)
     return used.ru_utime + used.ru_stime
 
 
-def instructions(words, source=os.devnull, **given):
-    """How many instructions a run takes with these in its environment, by callgrind."""
-    watched = ["valgrind", "--tool=callgrind", "--callgrind-out-file=/dev/null", *words]
-    how = {"stdout": subprocess.DEVNULL, "stderr": subprocess.PIPE, "check": True, "env": {**os.environ, **given}}
-    with open(source, "rb") as stream:
-        ran = subprocess.run(watched, stdin=stream, **how)
-    return int(re.search(rb"Collected : (\d+)", ran.stderr)[1])
+def least_seconds(runs, programs):
+    """The least processor time of each of these programs, by name, which take turns."""
+    turns = [{name: processor_seconds(*words) for name, words in programs.items()} for _ in range(runs)]
+    return {name: min(turn[name] for turn in turns) for name in programs}
 
 
-def used_by_node(node):
-    """What a running node used of processors so far, in its own code and in the system's."""
-    with open(f"/proc/{node.child.pid}/stat", encoding="ascii") as stat:
-        fields = stat.read().rpartition(")")[2].split()
-    return [int(fields[11]) / TICKS, int(fields[12]) / TICKS]
+def settled_after(group, own, seq):
+    """The seconds from an ask until all nodes say that it has settled, and those of the polls."""
+    polls, wanted = [], f"state {own} {seq} settled"
+    begun = time.monotonic()
+    group.nodes[own].ask(f"PAY {seq} {(own + 1) % group.members} 1")
+    for node in group.nodes.values():
+        answer = None
+        while answer != wanted:
+            asked = time.monotonic()
+            answer = node.ask(f"STATE {own} {seq}")
+            polls.append(time.monotonic() - asked)
+    return time.monotonic() - begun, polls
 
 
 def used_by_nodes(group):
-    """The same of all nodes of a group."""
-    return [sum(parts) for parts in zip(*map(used_by_node, group.nodes.values()))]
+    """What all nodes of a group used of processors so far."""
+    return sum(node.processor_seconds() for node in group.nodes.values())

@@ -1,21 +1,12 @@
 """What the tests are given, whether pytest runs them or what stands in for it (tests/fallback)."""
 
-import os
 import shutil
 import signal
-import sys
 import tempfile
 
-sys.dont_write_bytecode = True
-TESTS = os.path.dirname(os.path.realpath(__file__))
-FOLDERS = ("models", "support", "../bench", "../examples", "../tools")
-sys.path[:0] = [TESTS, *(os.path.join(TESTS, it) for it in FOLDERS)]
+import pytest
 
-import pytest  # noqa: E402
-
-import damaged_logs  # noqa: E402
-import hostile  # noqa: E402
-import fake_toolchain  # noqa: E402
+from support import damaged_logs, fake_toolchain, hostile
 
 # Children take each signal as usual. Run in the background or by nohup this process ignores some, and its children
 # would too, but for those that it takes itself. (Two of them Python ignores, and gives its children as usual.)

@@ -4,15 +4,17 @@ What all other tests see of it is checked in support/advices.py.
 """
 
 import os
+import re
 import socket
 import subprocess
 import tempfile
 
 import pytest
-from advices import DISK, NO_MEMORY
-from nodes import Group, free_ports, until, write_json
-from restarts import Folders
-from runs import GENESIS, SECONDS, key_texts, payd, same, write_text
+
+from support.advices import DISK, MOVE_AWAY, NO_MEMORY, last_lines
+from support.nodes import Group, free_ports, until, write_json
+from support.restarts import Folders
+from support.runs import GENESIS, SECONDS, key_texts, payd, same, write_text
 
 OPENING = [100, 0, 0, 50]
 
@@ -73,10 +75,6 @@ def node_words(folder, ports):
     return ["node", "--genesis", "g", "--keys", "k", "--ports", "p", "--dials", "1"]
 
 
-def last_lines(errors, count=2):
-    return "".join(errors.splitlines(True)[-count:])
-
-
 def test_a_port_that_another_program_has():
     with tempfile.TemporaryDirectory() as folder, socket.socket() as taken:
         ports = free_ports(2)
@@ -94,97 +92,79 @@ def test_a_socket_that_cannot_be_had():
         taken.bind(os.path.join(folder, "taken"))
         taken.listen()
         for name, why in (
-            ("file", "another file has this name"),
             ("taken", "another program has it"),
             ("gone/desk", "there is no such file or folder"),
             ("file/desk", "a part of its path is no folder"),
         ):
             errors = last_lines(errors_of([*words, "--socket", name], folder))
             says(errors, f"socket {name}", f"cannot listen on {name}: {why}", name)
-
-
-def test_nobody_listens():
-    with tempfile.TemporaryDirectory() as folder, socket.socket(socket.AF_UNIX) as ended:
-        write_text(os.path.join(folder, "file"), "")
-        ended.bind(os.path.join(folder, "ended"))
-        for name, why in (
-            ("gone", "there is no such socket: start the node, or name its folder or socket"),
-            ("ended", "its node has ended: start it"),
-            ("file", "that is no socket: name the node's folder or socket"),
-        ):
-            errors = errors_of(["send", "--socket", name, "FRONT"], folder)
-            says(errors, f"nobody listens on {name}", f"{name}: {why}", name)
+        errors = last_lines(errors_of([*words, "--socket", "file"], folder))
+        says(errors, "socket file", f"file is a file: {MOVE_AWAY}", "a file of this name")
 
 
 # ---- disks and logs
 
 
 def test_a_folder_that_cannot_be_written():
-    """What the second look at it shows. Nothing is left of that."""
     with Folders(OPENING, running=[]) as group:
         place = group.place.name
         words = ["--genesis", "genesis", "--keys", "keys-0"]
         node = ["node", *words, "--ports", "ports", "--data"]
         errors = last_lines(errors_of([*node, "genesis", "--new"], place))
-        why = "cannot write in genesis: a part of its path is no folder: mend that, and start again"
+        why = "cannot use genesis: a part of its path is no folder: mend that, and start again"
         says(errors, "log 1 Disk", why, "a file in place of a folder")
         errors = last_lines(errors_of([*node, "away/member", "--new"], place))
-        why = "cannot write in away/member: there is no such file or folder: mend that, and start again"
+        why = "cannot use away/member: there is no such file or folder: mend that, and start again"
         says(errors, "log 1 Disk", why, "a folder that can't be made")
         same(os.path.exists(os.path.join(place, "away")), False, "whether it was made")
 
 
+def run_where(call_of, error, path, words, folder):
+    """Status, output and errors of a run in which these calls of a file fail so."""
+    inject = f"inject={call_of}:error={error}"
+    traced = ["strace", "-f", "-qq", "-o", os.devnull, "-P", path, "-e", inject, payd(), *words]
+    how = {"cwd": folder, "input": "", "capture_output": True, "text": True, "timeout": SECONDS}
+    done = subprocess.run(traced, check=False, **how)
+    return done.returncode, done.stdout, re.sub(r"(?m)^strace: .*\n", "", done.stderr)
+
+
+@pytest.mark.needs("strace")
 def test_a_disk_that_is_full():
-    """Every write to /dev/full fails so."""
+    """Writes fail so; a length that can't be set does in another way, for which the system has no word. What is said is
+    of that moment: nothing more is written."""
     with Folders(OPENING, running=[0]) as group:
         group.kill(0)
         folder = os.path.join(group.place.name, "data-0")
+        with open(os.path.join(folder, "log"), "ab") as log:
+            log.write(b"a torn end")
         words = ["node", "--genesis", "genesis", "--keys", "keys-0", "--ports", "ports", "--data", "data-0"]
-        for name, why in (
-            ("log.new", f"data-0: {DISK}"),
-            ("trial.new", "cannot write in data-0: the disk is full: mend that, and start again"),
+        before = sorted(os.listdir(folder))
+        for name, call_of, error, why in (
+            ("log.new", "ftruncate", "EINVAL", f"data-0: {DISK}"),
+            ("log.dropped", "write", "ENOSPC", "cannot use data-0: the disk is full: mend that, and start again"),
         ):
-            os.symlink("/dev/full", os.path.join(folder, name))
-            errors = last_lines(errors_of(words, group.place.name))
-            says(errors, "log 1 Disk", why, f"{name} on a disk that is full")
-            same(os.path.lexists(os.path.join(folder, "trial.new")), False, "whether a trial is left")
+            path = os.path.join(folder, name)
+            status, _, errors = run_where(call_of, error, path, words, group.place.name)
+            says(last_lines(errors), "log 1 Disk", why, f"{name} on a disk that is full")
+            same(status, 4, f"the status with {name}")
+            same(sorted({*os.listdir(folder)} - {"log.new", "log.dropped"}), before, f"what is left after {name}")
 
 
+@pytest.mark.needs("strace")
 def test_an_export_writes_nothing_where_a_read_fails():
-    """A second look at the folder only reads it, too."""
-    with Folders(OPENING, running=[]) as group:
-        folder = os.path.join(group.place.name, "failing")
-        os.makedirs(os.path.join(folder, "log"))
-        # (what is written under this name fails, and what is removed afterwards is gone)
-        os.symlink("/dev/full", os.path.join(folder, "trial.new"))
-        before = os.stat(folder).st_mtime_ns
-        words = ["export", "--genesis", "genesis", "--keys", "keys-0", "--data", "failing"]
-        done = subprocess.run([payd(), *words], cwd=group.place.name, capture_output=True, text=True, timeout=SECONDS)
-        same((done.returncode, done.stdout), (4, ""), f"the status: {done.stderr}")
-        says(done.stderr, "log 1 Disk", f"failing: {DISK}", "a log that can't be read")
-        same((os.stat(folder).st_mtime_ns, sorted(os.listdir(folder))), (before, ["log", "trial.new"]), "the folder")
-
-
-def test_a_log_that_another_node_has():
     with Folders(OPENING, running=[0]) as group:
-        words = ["node", "--genesis", "genesis", "--keys", "keys-0", "--ports", "ports", "--data", "data-0"]
-        why = "another node has this folder: end that one, or leave it alone"
-        says(last_lines(errors_of(words, group.place.name)), "log 2 Held", why, "a log that is held")
+        group.kill(0)
+        folder = os.path.join(group.place.name, "data-0")
+        before = os.stat(folder).st_mtime_ns, sorted(os.listdir(folder))
+        words = ["export", "--genesis", "genesis", "--keys", "keys-0", "--data", "data-0"]
+        path = os.path.join(folder, "log")
+        status, output, errors = run_where("read,pread64,readv", "EIO", path, words, group.place.name)
+        same((status, output), (4, ""), f"the status: {errors}")
+        says(errors, "log 1 Disk", f"data-0: {DISK}", "a log that can't be read")
+        same((os.stat(folder).st_mtime_ns, sorted(os.listdir(folder))), before, "the folder")
 
 
 # ---- all else
-
-
-def test_input_and_output_that_fail():
-    with tempfile.TemporaryDirectory() as folder, open("/dev/full", "wb") as full:
-        source = os.open(folder, os.O_RDONLY)
-        done = subprocess.run([payd(), "check"], stdin=source, capture_output=True, text=True, timeout=SECONDS)
-        os.close(source)
-        says(done.stderr, "engine 2 Read", "the input can't be read", "a folder as input")
-        how = {"input": b"x" * 200, "stdout": full, "stderr": subprocess.PIPE, "timeout": SECONDS}
-        done = subprocess.run([payd(), "check"], **how)
-        advice = "the output can't be written, and isn't whole"
-        says(done.stderr.decode(), "engine 3 Write", advice, "a disk that is full")
 
 
 def test_no_memory():

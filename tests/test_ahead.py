@@ -8,12 +8,10 @@ import subprocess
 import time
 import unittest
 
-from frames import ECHO, SEND, WANT, frame, payment, read_frame
-from nodes import Group, Node, judges_words_of
-from peers import connected, received
-from runs import SECONDS, same
-
-PAIR = {"members": 2, "faults": 0, "opening": [5, 5]}
+from payd_tools.frames import ECHO, SEND, WANT, frame, payment, read_frame
+from support.nodes import Group, Node, judges_words_of
+from support.peers import claims, connected, received
+from support.runs import SECONDS, same
 
 
 def test_words_that_say_no_number_ahead():
@@ -28,6 +26,7 @@ def wanted(ahead, frames):
         group.start(0, options=["--ahead", f"{ahead}"])
         with listener.accept()[0] as stream:
             stream.settimeout(SECONDS)
+            claims(stream, 1, 0)
             stream.sendall(frames)
             stream.shutdown(socket.SHUT_WR)
             numbers = []

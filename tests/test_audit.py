@@ -7,12 +7,11 @@ import subprocess
 import tempfile
 import threading
 
-import audits
-from advices import told_plainly
-from audits import audit
-from frames import payment
-from runs import SECONDS, of_file, payd, same, shows, with_files, write_text
-from scripts import RandomScripts
+from models import audits
+from models.audits import audit
+from payd_tools.frames import payment
+from support.advices import told_plainly
+from support.runs import SECONDS, of_file, payd, same, shows, with_files, write_text
 
 
 def test_model_has_each_verdict():
@@ -36,7 +35,7 @@ def test_all_that_is_wrong():
     shows(audit([audits.PAID, audits.FRESH], "--all"), 0, "clean\n")
     files = {"two": audits.TWO_ENTRIES, "two again": {**audits.TWO_ENTRIES, "balances": [1, 2, 3, 4]}}
     shows(
-        with_files(files, ["audit", "--jobs", "2", "--all", *files]),
+        with_files(files, ["audit", "--all", *files]),
         1,
         "3 balance 1 account 0\n"
         "3 balance account 0 says 1 right 100 in two again\n"
@@ -58,7 +57,8 @@ def test_all_that_is_wrong_with_random_exports():
 
 def test_each_fault_of_an_export():
     """Of each command that reads one, also behind another, and before one that isn't JSON."""
-    rows = [(audits.changed(members), fault) for _, members, fault in audits.FAULTS]
+    # (the vectors have more of each kind, for an audit)
+    rows = [(audits.changed(members), it) for it, members in {it: has for _, has, it in audits.FAULTS}.items()]
     texts = "", "{", "nan", b"\xef\xbb\xbf{}", b'"\xff"', json.dumps(audits.PAID) + "x"
     rows += [(text, "1 BadJson") for text in texts] + [(text, "2 BadShape") for text in ("[]", "7", "{}")]
     for content, fault in rows:
@@ -68,6 +68,36 @@ def test_each_fault_of_an_export():
             shows(with_files(files, words), 2, "", of_file(f"export {fault}", "bad"), of=f"{words} of {content!r}")
     for words in (["audit", "gone"], ["book", "gone"], ["statement", "gone", "x"], ["journal", "gone"]):
         shows(with_files({}, words), 2, "", "payd: file gone\n", of=f"{words}")
+
+
+def test_faults_of_files_keep_their_order():
+    """A verdict comes after all files, and a fault that is found sooner after one that is named before it."""
+    long = json.dumps(audits.export([7], [65536 * [""]], [65536], [7]))
+    files = {"paid": audits.PAID, "forked": audits.FORKED, "text": "{", "shape": "[]", "long": long, "torn": long + "x"}
+    files["other"] = {**audits.FRESH, "opening": [0, 0, 0, 51]}
+    files.update(front={**audits.PAID, "front": [0, 0, 0, 0]}, balance={**audits.PAID, "balances": [0, 0, 0, 50]})
+    for wrong in ("forked", "other", "front", "balance"):
+        for words, line in (
+            (["paid", wrong, "shape"], of_file("export 2 BadShape", "shape")),
+            ([wrong, "paid", "text", "shape"], of_file("export 1 BadJson", "text")),
+            (["paid", wrong, "gone", "text"], "payd: file gone\n"),
+        ):
+            same(with_files(files, ["audit", *words]), (2, "", line), f"{words}")
+    for words, wanted in (
+        (["shape", "gone"], (2, "", of_file("export 2 BadShape", "shape"))),
+        (["gone", "shape"], (2, "", "payd: file gone\n")),
+        (["paid", "."], (2, "", "payd: file .\n")),
+        (["paid", "forked", "text"], (2, "", of_file("export 1 BadJson", "text"))),
+        (["paid", "text", "forked", "paid", "gone"], (2, "", of_file("export 1 BadJson", "text"))),
+        (["paid", "gone", "forked", "paid", "text"], (2, "", "payd: file gone\n")),
+        (["torn", "shape", "gone"], (2, "", of_file("export 1 BadJson", "torn"))),
+        (["long", "gone", "torn"], (2, "", "payd: file gone\n")),
+        (["paid", "paid", "paid", "paid", "shape", "text"], (2, "", of_file("export 2 BadShape", "shape"))),
+        (["paid", "paid", "paid", "forked"], (1, "4 fork 0 3 owner 3 seq 0\n", "")),
+        (["paid", *(8 * ["paid"]), "forked"], (1, "4 fork 0 9 owner 3 seq 0\n", "")),
+        (["paid", "long", "forked"], (1, "1 genesis 1\n", "")),
+    ):
+        same(with_files(files, ["audit", *words]), wanted, f"{words}")
 
 
 def test_longest_lists_and_values():
@@ -108,8 +138,7 @@ def audit_of_pipes(contents, meanwhile):
 
         writer = threading.Thread(target=write, daemon=True)
         writer.start()
-        words = [payd(), "audit", "--jobs", "1", first, *pipes]
-        done = subprocess.run(words, capture_output=True, timeout=SECONDS)
+        done = subprocess.run([payd(), "audit", first, *pipes], capture_output=True, timeout=SECONDS)
         writer.join(SECONDS)
     return done.returncode, done.stdout.decode("ascii"), told_plainly(done.stderr.decode())
 
@@ -126,32 +155,3 @@ def test_words_of_audit():
     same(with_files({}, ["audit"])[:2], (2, ""), "no file")
     shows(with_files({"--x": audits.PAID}, ["audit", "--", "--x"]), 0, "clean\n", of="a name behind --")
     shows(with_files({"a": audits.PAID}, ["audit", "a", "a", "a"]), 0, "clean\n", of="one file three times")
-
-
-def test_exports_of_runs():
-    """Members export before the last frames are brought, and after them; then one value of one list is another."""
-    seeded, clean, others = random.Random(31), 0, set()
-    for seed in range(20):
-        *commands, bring_all, show = RandomScripts(seed).script().decode("ascii").splitlines()
-        world = audits.played(commands)
-        if world is None:
-            continue
-        exports = audits.exports_in(world, [*commands, show])
-        world.run_line(bring_all)
-        exports += audits.exports_in(world, [*commands, bring_all, show])
-        shows(audit(exports), 0, "clean\n", of=f"exports of random script {seed}")
-        clean += 1
-        values = [
-            (place, owner, seq)
-            for place, given in enumerate(exports)
-            for owner, texts in enumerate(given["lists"])
-            for seq in range(len(texts))
-        ]
-        if values:
-            place, owner, seq = seeded.choice(values)
-            exports[place]["lists"][owner][seq] = seeded.choice(["01", payment(payee=1, amount=2).hex()])
-            line = audits.verdict(exports)
-            of = f"{place} {owner} {seq} of script {seed}"
-            shows(audit(exports), 0 if line == "clean" else 1, f"{line}\n", of=of)
-            others.add(line[0])
-    same((clean > 10, {"2", "3", "4"} <= others), (True, True), f"{clean} runs, and verdicts {others}")

@@ -1,15 +1,8 @@
 """Black-box tests of frames of which one bit is turned: each bit of each frame that a worked run brings."""
 
-import subprocess
-
-import model
-from advices import told_plainly
-from damage import check
-from frames import SEND, frame
-from runs import SECONDS, payd, run, same
-from scripts import WORKED, script_of
-
-OWN = 1
+from models.scripts import WORKED, script_of
+from payd_tools import model
+from support.runs import run, same
 
 
 def with_a_bit_turned(given):
@@ -63,16 +56,3 @@ def test_each_bit_of_each_frame_turned():
                 same(reply.startswith("refused "), True, f"{name}, event {place}: {reply}")
             elif played[place].startswith("raw "):
                 same(reply.startswith("took"), True, f"{name}, event {place}: {reply}")
-
-
-def test_each_bit_of_a_repeated_frame_turned():
-    right = frame(SEND, 0, OWN, 0)
-    print(f"a repeated frame: {8 * len(right)} bits turned, before it and behind it")
-    for place, wrong in enumerate(with_a_bit_turned(right)):
-        for stream in (wrong + right, right + wrong):
-            status, text, errors = check(stream)
-            taken = [line.split(" ", 1)[1] for line in text.splitlines() if " ok " in line]
-            same(taken in ([], ["ok send from 0 number 0 owner 0 seq 0 value 0"]), True, text)
-            done = subprocess.run([payd(), "check"], input=stream, capture_output=True, timeout=SECONDS)
-            was = done.returncode, done.stdout.decode("ascii"), told_plainly(done.stderr.decode())
-            same(was, (status, text, errors), f"bit {place}")

@@ -3,12 +3,11 @@
 import json
 import random
 
-import audits
-import group_books
-from audits import export
-from frames import payment
-from group_books import book
-from runs import same, shows
+from models import audits, group_books
+from models.audits import export
+from models.group_books import book
+from payd_tools.frames import payment
+from support.runs import same, shows
 
 
 def pays(payee, amount):
@@ -89,11 +88,6 @@ def test_forged_payments_of_one_member():
     shows(audits.audit([forged, *genuine]), 0, "clean\n", of="the audit: no two contradict")
     text = BOOK[: BOOK.index("waits")] + "beyond 0 account 3 seq 0\ntotal 150\n"
     says([forged, *genuine], text, "what it adds is beyond the book")
-
-
-def test_a_front_and_balances_of_an_export_make_no_difference():
-    wrong = {**ALL[0], "front": 4 * [2**64 - 1], "balances": 4 * [2**64 - 1]}
-    shows(book([wrong, ALL[1]]), 0, BOOK, of="a wrong front and wrong balances")
 
 
 def test_genesis_and_export_of_a_book():

@@ -7,16 +7,16 @@ import random
 import shutil
 from concurrent.futures import ThreadPoolExecutor
 
-import audits
-import group_model
 import pytest
-from audits import FRESH, PAID, WORKED
-from frames import payment
-from nodes import write_json
-from runs import TOP, call, same, write_text
-from scripts import RandomScripts
+
+from models import audits, group_model
+from models.audits import FRESH, PAID, WORKED
+from models.scripts import RandomScripts
+from payd_tools.frames import payment
+from payd_tools.values import numbered_entries
+from support.nodes import write_json
+from support.runs import TOP, call, same, write_text
 from test_journal import hledger, ledger, told
-from values import numbered_entries
 
 BOOKS = os.path.join(TOP, "tools", "books")
 DAY = "2026-03-05"
@@ -165,6 +165,55 @@ def test_notes_are_comments(folder):
             write_text(os.path.join(folder, "both"), output.replace("ü", "ue").replace("ß", "ss"))
             read = {name: it for name, it in balances_of(os.path.join(folder, "both")).items() if it}
             same(read, {"assets:Ann": 7, "assets:Bob": 2, "equity:opening": -9}, f"{program}: both groups")
+
+
+# A payment with its note, another account's note of it, and one that waits with its note.
+NOTED = audits.export(
+    [9, 0],
+    [
+        [payment(payee=1, amount=2).hex(), note("seq 0 Pizza; Friday"), note("seq 0 a second one")],
+        [note("seq 0 of another's"), payment(payee=0, amount=20).hex(), note("seq 1 rent, 3 | 4")],
+    ],
+    [3, 1],
+    [7, 2],
+)
+OF_NOTED = f"""
+{DAY} (0.0) Bob | Pizza, Friday  ; account 0 seq 0 entry 0
+    assets:Ann  -2
+    assets:Bob  2
+
+; note account 0 seq 1 entry 1: seq 0 Pizza; Friday
+
+; note account 0 seq 2 entry 2: seq 0 a second one
+
+; note account 1 seq 0 entry 0: seq 0 of another's
+
+{DAY} closing balances
+    assets:Ann  0 = 7
+    assets:Bob  0 = 2
+
+; waiting: in no balance above
+
+{DAY} ! (1.1) Bob | rent, 3 | 4  ; account 1 seq 1 entry 1
+    waiting:Bob  -20
+    waiting:Ann  20
+"""
+
+
+def test_notes_stand_with_their_payments(folder):
+    """As what programs that keep books call the description, so that they find it."""
+    status, output, errors = books(folder, group_of(NOTED, "Ann", "Bob"), NOTED)
+    same((status, errors, output.endswith(OF_NOTED)), (0, "", True), output)
+    path = os.path.join(folder, "journal")
+    write_text(path, output)
+    for program, balances_of in READERS.items():
+        if shutil.which(program):
+            read = {name: it for name, it in balances_of(path).items() if it}
+            same(read["assets:Bob"], 2, f"{program}: the balance")
+    if shutil.which("hledger"):
+        rows = hledger_rows(path, "register", "desc:pizza", "assets:Ann")[1:]
+        same([it[-2] for it in rows], ["-2"], "what is found by its note")
+        same(told(hledger(path, "payees", "desc:pizza")), "Bob\n", "its payee")
 
 
 def test_books_of_a_group_without_names(folder):

@@ -1,77 +1,20 @@
 """Black-box tests of what `check` says of frames, and of what comes of its devices."""
 
 import os
+import random
 import subprocess
 import threading
 import time
 
-from advices import told_plainly
-from frames import ECHO, READY, SEND, WANT, frame, payment
-from runs import EXAMPLE_GENESIS, SECONDS, TOP, example_keys, payd, run, run_byte_by_byte, same, shows
+from models.damage import check
+from payd_tools.frames import ECHO, READY, SEND, WANT, frame, payment, payments
+from support.advices import told_plainly
+from support.runs import EXAMPLE_GENESIS, SECONDS, TOP, example_keys, payd, run, same, shows
 
-# ---- frames
-
-
-# Four frames that member 1 of 4 refuses, each for another cause.
+# A frame that member 1 of 4 refuses.
 BAD_TAG = bytes.fromhex("0036010100000001") + bytes(48)
-NOT_FOR_ME = bytes.fromhex("0036010100000002") + bytes(48)
-UNKNOWN_SENDER = bytes.fromhex("0036010100010001") + bytes(48)
-UNKNOWN_OWNER = bytes.fromhex("003601010000000100000000000000000004") + bytes(38)
-
-# The first frame of member 0 for member 1, twice.
-TWICE = 2 * frame(SEND, 0, 1, 0)
-TAKEN_LINE = "1 ok send from 0 number 0 owner 0 seq 0 value 0\n"
-REPEAT_LINE = "2 refused 5 Repeat next 1\n"
-
-
-# By one thread, by three, and by as many as there are processors.
-WAYS = (["check", "--jobs", "1"], ["check", "--jobs", "3"], [])
-
-
-def judges(stream, status, lines, of="run"):
-    """Status and lines of a stream are these, however many threads judge it."""
-    for words in WAYS:
-        shows(run(words, stream), status, lines, of=f"{of}, {words}")
-
 
 # ---- what is judged
-
-# Streams of frames, each with what is said of it.
-JUDGED = (
-    (),
-    (
-        (BAD_TAG, "refused 4 BadTag"), (NOT_FOR_ME, "refused 1 NotForMe"),
-        (UNKNOWN_SENDER, "refused 2 UnknownSender"), (UNKNOWN_OWNER, "refused 3 UnknownOwner"),
-    ),
-    (
-        (frame(SEND, 0, 1, 0, value=payment(payee=1, amount=30)), "ok send from 0 number 0 owner 0 seq 0 value 11"),
-        (frame(ECHO, 2, 1, 0, seq=65535, value=bytes(1024)), "ok echo from 2 number 0 owner 0 seq 65535 value 1024"),
-        (frame(READY, 3, 1, 0, owner=3, seq=256), "ok ready from 3 number 0 owner 3 seq 256 value 0"),
-        (frame(WANT, 2, 1, 2**64 - 1), "want from 2 number 18446744073709551615"),
-        (frame(READY, 2, 1, 1, owner=1, seq=7, value=b"\xff"), "ok ready from 2 number 1 owner 1 seq 7 value 1"),
-        (frame(READY, 2, 1, 3, owner=1, seq=8), "refused 6 Gap next 2"),
-        (frame(ECHO, 2, 1, 1, owner=2, seq=1), "refused 5 Repeat next 2"),
-    ),
-    (
-        # refused frames move no front
-        (frame(SEND, 0, 1, 0, key=bytes(32)), "refused 4 BadTag"), (frame(SEND, 0, 2, 0), "refused 1 NotForMe"),
-        (frame(WANT, 0, 1, 0), "want from 0 number 0"),
-        (frame(SEND, 0, 1, 0), "ok send from 0 number 0 owner 0 seq 0 value 0"),
-    ),
-    # the first cause is named: oneself as sender, and all unknown
-    ((frame(SEND, 1, 1, 0, owner=4), "refused 2 UnknownSender"), (frame(SEND, 9, 2, 0, owner=4), "refused 1 NotForMe")),
-)
-HEAD = "003601010000000100000000000000000000"
-FAULTS = {
-    "1 BadLength": ("05", "0035", "0437", f"05{TWICE.hex()}"),
-    "2 BadVersion": ("003602",),
-    "3 BadKind": ("00360105", "00360100"),
-    "4 BadValueLength": (f"{HEAD}000000000001", "003601040000000100000000000000000000000000000001"),
-    "5 BadSeq": (f"{HEAD}00010000",),
-    "6 BadWant": ("00370104", "003601040000000100000000000000000001", "00360104000000010000000000000000000000000001"),
-    "7 Truncated": ("00", "0036", "0436", BAD_TAG[:-1].hex()),
-}
-
 
 # Values in the list of account 3 of four, each with what it is told to pay.
 VALUES = (
@@ -98,9 +41,8 @@ VALUES = (
 
 
 def values_are_told(stream, status, lines, of="run"):
-    """Of values too, however many threads judge them."""
-    for words in (["check", "--values"], *([*way, "--values"] for way in WAYS if way)):
-        shows(run(words, stream), status, lines, of=f"{of}, {words}")
+    """Of values too."""
+    shows(run(["check", "--values"], stream), status, lines, of=of)
 
 
 def test_values_are_told_what_they_pay():
@@ -111,8 +53,8 @@ def test_values_are_told_what_they_pay():
         said = f"ok {('send', 'echo', 'ready')[number % 3]} from 3 number {number} owner 3 seq {number}"
         lines += f"{number + 1} {said} value {len(value)}\n  pays {pays}\n"
     values_are_told(stream, 0, lines)
-    judges(stream, 0, "".join(line for line in lines.splitlines(True) if not line.startswith(" ")))
-    # as many as are shared out to threads, of which each begins with another frame
+    shows(run(["check"], stream), 0, "".join(line for line in lines.splitlines(True) if not line.startswith(" ")))
+    # more than one read gives
     count, value = 2000, bytes.fromhex("02 02 0001 000000000000001e 0002 0000000000000014")
     stream = b"".join(frame(SEND, 0, 1, number, owner=number % 2, value=value) for number in range(count))
     lines = "".join(
@@ -143,45 +85,6 @@ def test_values_of_refused_frames_are_told():
     values_are_told(stream + b"\x05", 1, f"{lines}{count + 1} fault 1 BadLength\n")
 
 
-def test_each_frame_has_its_line():
-    shows(run(["check"]), 0, "", of="nothing")
-    for rows in JUDGED:
-        lines = "".join(f"{place} {line}\n" for place, (_, line) in enumerate(rows, 1))
-        judges(b"".join(given for given, _ in rows), 0, lines, of=lines)
-
-
-def test_each_fault_ends_the_text():
-    for fault, texts in FAULTS.items():
-        for text in texts:
-            judges(bytes.fromhex(text), 1, f"1 fault {fault}\n", of=text)
-    judges(TWICE + b"\x05", 1, TAKEN_LINE + REPEAT_LINE + "3 fault 1 BadLength\n")
-
-
-def lines_of_a_cut(size):
-    """Status and lines of the first bytes of a stream of two frames of 56 bytes."""
-    if size == 0:
-        return 0, ""
-    if size < 56:
-        return 1, "1 fault 7 Truncated\n"
-    if size == 56:
-        return 0, TAKEN_LINE
-    if size < 112:
-        return 1, TAKEN_LINE + "2 fault 7 Truncated\n"
-    return 0, TAKEN_LINE + REPEAT_LINE
-
-
-def test_repeated_frame_cut_anywhere():
-    same(len(TWICE), 112, "the stream's size")
-    for size in range(len(TWICE) + 1):
-        judges(TWICE[:size], *lines_of_a_cut(size), of=f"the first {size} bytes")
-
-
-def test_repeated_frame_byte_by_byte():
-    for size in (0, 1, 2, 24, 55, 56, 57, 80, 111, 112):
-        for words in WAYS:
-            shows(run_byte_by_byte(TWICE[:size], words), *lines_of_a_cut(size), of=f"the first {size} bytes, {words}")
-
-
 def test_long_stream_and_slow_reader():
     """More lines than a pipe holds, to a reader that takes its time."""
     count = 5000
@@ -205,6 +108,58 @@ def test_long_stream_and_slow_reader():
     watchdog.cancel()
     lines = "".join(f"{line} refused 4 BadTag\n" for line in range(1, count + 1))
     shows((status, b"".join(parts).decode("ascii"), errors), 0, lines)
+
+
+# ---- streams of many reads
+
+# Values that pay or may; an empty one stands for bytes that are drawn, as many as one of these.
+PAYMENTS = [*4 * [b""], payment(0, 7), payment(2, 0), payments([(1, 30), (2, 20)]), payments([(0, 1), (3, 5), (2, 2)])]
+SIZES = [0, 11, 1024, 1024]
+
+
+def drawn(seed, count):
+    """Frames to member 1 from three members: most are the next ones, and others wrongly tagged, repeated, ahead or
+    WANTs."""
+    seeded = random.Random(seed)
+    following = {0: 0, 2: 0, 3: 0}
+    stream = []
+    for _ in range(count):
+        sender, way = seeded.choice([0, 2, 3]), seeded.random()
+        number = following[sender]
+        if way < 0.1:
+            stream.append(frame(WANT, sender, 1, number))
+            continue
+        number = max(0, number - 1) if way < 0.2 else number + 1 if way < 0.3 else number
+        value = seeded.choice(PAYMENTS) or bytes(seeded.randrange(256) for _ in range(seeded.choice(SIZES)))
+        made = frame(seeded.choice([SEND, ECHO, READY]), sender, 1, number, owner=sender, seq=7, value=value)
+        if way > 0.9:
+            made = made[:-1] + bytes([made[-1] ^ 1])
+        elif number == following[sender]:
+            following[sender] += 1
+        stream.append(made)
+    return b"".join(stream)
+
+
+def judges_as_the_model(stream, of):
+    same(run(["check"], stream) == check(stream), True, of)
+    same(run(["check", "--values"], stream) == check(stream, tells_values=True), True, f"{of}, values too")
+
+
+def test_drawn_frames_have_the_text():
+    judges_as_the_model(drawn(1, 6000), "drawn frames")
+
+
+def test_fault_ends_a_long_text():
+    stream = drawn(2, 1500)
+    judges_as_the_model(stream + b"\x05" + stream, "a fault in the midst")
+    judges_as_the_model(stream[:-1], "the last byte missing")
+
+
+def test_frames_of_each_size_have_the_text():
+    for length in (0, 11, 1024):
+        stream = b"".join(frame(SEND, 0, 1, number, value=length * b"x") for number in range(200_000 // (56 + length)))
+        judges_as_the_model(stream, f"values of {length} bytes")
+        judges_as_the_model(stream[1080:], f"values of {length} bytes, cut off in front")
 
 
 # ---- devices

@@ -11,20 +11,22 @@ import tempfile
 import threading
 import time
 
-import desks
 import pytest
-from clients import Client, socket_of
-from nodes import PATIENCE, Group, Node, until
-from restarts import Folders
-from runs import call, payd, run, run_to_nobody, same, shows
+
+from models import desks
+from support.clients import Client, socket_of
+from support.nodes import PATIENCE, Group, Node, until
+from support.restarts import Folders
+from support.runs import TOP, UNWRITTEN, call, run_to_nobody, same, shows
 
 OPENING = [100, 0, 0, 50]
+SEND = os.path.join(TOP, "tools", "send")
 # How many clients a node answers at once, and how long nothing may come from one that waits.
 MOST_CLIENTS, WAITS = 16, 0.3
 
 
 def send(group, own, *lines, stream=b""):
-    return run(["send", "--data", os.path.dirname(socket_of(group, own)), *lines], stream)
+    return call([SEND, "--data", os.path.dirname(socket_of(group, own)), *lines], stream)
 
 
 # ---- the socket
@@ -52,7 +54,9 @@ def test_each_client_has_its_own_answers():
         for client in (one, two):
             same(client.is_silent(0), True, "what comes for half a line")
         one.write("3\nPAY 2 1 1\nPAYS 2 1 1 2 2\n")
-        same([one.line() for _ in range(3)], ["balance 3 50", "refused 4 IdUsed", "asked 2 seq 1"], "other's ids")
+        # the payment of 4 may have settled by now
+        same(one.line() in ("balance 3 50", "balance 3 54"), True, "the balance")
+        same([one.line() for _ in range(2)], ["refused 4 IdUsed", "asked 2 seq 1"], "other's ids")
         same(group.nodes[0].ask("PAY 1 1 30"), "asked 1 seq 0", "the input, of a client's id")
         group.settle([4, 0, 0, 0])
         two.write("NT\nSTATEMENT 2\nENTRIES 0 3\nFLY\nWAITING 0\n")
@@ -62,14 +66,18 @@ def test_each_client_has_its_own_answers():
         group.stop()
 
 
-def test_last_line_without_its_end():
-    """It is a line as any, as at the end of a desk's input."""
+def test_half_a_line_is_no_line():
+    """What comes behind the last line feed of a connection is dropped, however it ends: nobody pays by half a line."""
     with Folders(OPENING) as group:
-        client = Client(socket_of(group, 0))
-        client.write("BALANCE 0\nFRONT")
-        status, output, _ = run(["desk", "--genesis", f"{group.place.name}/genesis", "--keys",
-                                 f"{group.place.name}/keys-0"], b"BALANCE 0\nFRONT")
-        same((status, client.rest()), (0, output), "its answers")
+        one, two = Client(socket_of(group, 0)), Client(socket_of(group, 0))
+        one.write("BALANCE 0\nPAY 7 1 3")
+        same(one.rest(), "balance 0 100\n", "what is answered before its end")
+        two.write("PAY 7 1 3")
+        two.close()
+        three = Client(socket_of(group, 0))
+        same(three.ask("PAY 7 1 30"), "asked 7 seq 0", "the whole line")
+        three.write("FRONT\n")
+        same(three.rest(), "front 0 0 0 0\n", "lines with their ends")
 
 
 def test_clients_lines_are_those_of_a_desk():
@@ -195,6 +203,7 @@ def test_socket_elsewhere():
         group.start(0, options=["--socket", path])
         same(group.nodes[0].front(), [0, 0, 0, 0], "the input")
         same(os.path.exists(socket_of(group, 0)), False, "whether there is one in the folder too")
+        group.nodes[0].meets(group.least)
         same(Client(path).ask("PAY 7 1 30"), "asked 7 seq 0", "a client")
         with open(taken, "w", encoding="ascii") as file:
             file.write("a file")
@@ -218,9 +227,10 @@ def test_socket_is_never_open_to_others():
             while not seen or 0 in seen:
                 seen.discard(0)
                 seen.add(stat.S_IMODE(os.lstat(path).st_mode) if os.path.lexists(path) else 0)
+            # (the folder in which it was made stands for a moment)
+            until(lambda: os.listdir(folder), ["socket"], of="what else is in the folder")
             node.kill()
             os.remove(path)
-            same(os.listdir(folder), [], "what else is in the folder")
             same(seen, {0o600}, "modes of the socket")
             seen.clear()
 
@@ -236,18 +246,18 @@ def test_half_made_socket_makes_way():
         same(group.nodes[0].front(), [0, 0, 0, 0], "a node")
         same(Client(path).ask("BALANCE 3"), "balance 3 50", "a client")
         same(os.listdir(folder), ["socket"], "what is in the folder")
-        # a folder of somebody's that isn't empty stays, and the node says which socket it can't have
+        # a folder of somebody's that isn't empty stays, and the node names it
         group.kill(0)
         os.mkdir(f"{path}.new")
         with open(os.path.join(f"{path}.new", "file"), "wb"):
             node = Node(0, group.place.name, options=["--socket", path])
         status, output, errors = node.end()
-        same((status, output, f"payd: socket {path}\n" in errors), (3, "", True), f"the node: {errors}")
+        same((status, output, f"payd: socket {path}.new\n" in errors), (3, "", True), f"the node: {errors}")
         same(os.listdir(f"{path}.new"), ["file"], "what is in that folder")
 
 
 def test_socket_with_a_long_name():
-    """One of 101 bytes works; a longer one is refused before anything is made, also to a client."""
+    """One of 101 bytes works; a longer one is refused before anything is made."""
     with Group(OPENING, running=[]) as group, tempfile.TemporaryDirectory() as folder:
         longest, longer = "d" * (101 - len("/desk")), "d" * (102 - len("/desk"))
         node = group.start(0, options=["--data", longest])
@@ -255,7 +265,6 @@ def test_socket_with_a_long_name():
         said = f"payd: socket {longer}/desk: more than 101 bytes; --socket gives it a shorter name\n"
         shows(Node(1, group.place.name, options=["--data", longer]).end(), 2, "", said, of="a node in a longer one")
         same(os.path.exists(os.path.join(group.place.name, longer)), False, "whether that folder is made")
-        shows(run(["send", "--data", longer, "FRONT"]), 2, "", said, of="a client")
         path = os.path.join(folder, "socket")
         started = group.start(1, options=["--data", longer, "--socket", path])
         same(started.front(), [0, 0, 0, 0], "the same, by --socket")
@@ -267,6 +276,7 @@ def test_node_that_stays_is_asked_on_its_socket():
         node = group.start(0, options=["--stay"])
         node.end_input()
         until(lambda: os.path.exists(socket_of(group, 0)), True, of="the socket")
+        node.meets(group.least)
         client = Client(socket_of(group, 0))
         same(client.ask("PAY 1 1 30"), "asked 1 seq 0", "a client")
         same(send(group, 0, "STATE 0 0")[:2], (0, "state 0 0 asked\n"), "another")
@@ -297,15 +307,17 @@ def test_sent_lines_are_answered():
         shows(send(group, 0, stream=b"FRONT"), 0, "front 1 0 0 0\n", of="a line without its end")
         shows(send(group, 0), 0, "", of="no line")
         shows(send(group, 0, "FRONT", stream=b"BALANCE 0\n"), 0, "front 1 0 0 0\n", of="words, and not the input")
-        wanted, said = "balance 0 70\nrefused 2 NoAccount\nbalance 1 30\n", "payd: refused line 2: 2 NoAccount\n"
+        wanted, said = "balance 0 70\nrefused 2 NoAccount\nbalance 1 30\n", "payd send: refused line 2: 2 NoAccount\n"
         shows(send(group, 0, "BALANCE 0", "BALANCE 4", "BALANCE 1"), 1, wanted, said, of="a line that is refused")
-        shows(send(group, 0, "FLY"), 1, "refused 1 BadLine\n", "payd: refused line 1: 1 BadLine\n", of="no command")
+        said = "payd send: refused line 1: 1 BadLine\n"
+        shows(send(group, 0, "FLY"), 1, "refused 1 BadLine\n", said, of="no command")
         path = socket_of(group, 0)
-        shows(run(["send", "--socket", path, "FRONT"]), 0, "front 1 0 0 0\n", of="by the socket")
+        shows(call([SEND, "--socket", path, "FRONT"]), 0, "front 1 0 0 0\n", of="by the socket")
         many = "".join(f"PAY {it} 1 0\n" for it in range(1000, 21_000))
         status, output, errors = send(group, 0, stream=many.encode())
         same((status, output), (1, "refused 3 ZeroOrSelf\n" * 20_000), "many lines")
-        same(errors, "".join(f"payd: refused {it}: 3 ZeroOrSelf\n" for it in range(1000, 21_000)), "which are refused")
+        said = "".join(f"payd send: refused {it}: 3 ZeroOrSelf\n" for it in range(1000, 21_000))
+        same(errors, said, "which are refused")
 
 
 def test_send_names_what_is_refused():
@@ -316,7 +328,7 @@ def test_send_names_what_is_refused():
             ("PAY 7 1 30", "asked 7 seq 0", None),
             ("PAY 7 1 31", "refused 4 IdUsed", "7"),
             (f"PAYS {last} 9 1 1 2", "refused 2 NoAccount", f"{last}"),
-            (f"PAY {most} 1 1", "refused 1 BadLine", "line 4"),
+            (f"PAY {most} 1 1", "refused 1 BadLine", f"{most}"),
             ("STATEMENT 3", "end 3 balance 50", None),
             ("", "refused 1 BadLine", "line 6"),
             ("PAY 8", "refused 1 BadLine", "8"),
@@ -328,7 +340,7 @@ def test_send_names_what_is_refused():
         ]
         output = "".join(f"{answer}\n" for _, answer, _ in rows)
         refusals = [(name, answer.partition(" ")[2]) for _, answer, name in rows if name]
-        said = "".join(f"payd: refused {name}: {why}\n" for name, why in refusals)
+        said = "".join(f"payd send: refused {name}: {why}\n" for name, why in refusals)
         stream = "\n".join(line for line, _, _ in rows).encode()
         shows(send(group, 0, stream=stream), 1, output, said, of="lines of the input")
         shows(send(group, 0, *(line for line, _, _ in rows)), 1, output, said, of="words")
@@ -337,19 +349,21 @@ def test_send_names_what_is_refused():
 def test_send_without_a_node():
     with tempfile.TemporaryDirectory() as folder:
         path = os.path.join(folder, "desk")
-        said = f"payd: nobody listens on {path}\n"
-        shows(run(["send", "--data", folder, "FRONT"]), 3, "", said, of="no socket")
+
+        def meets_nobody(why, *words):
+            said = f"payd send: nobody listens at {path} ({why}); a line may be given again, for its ID pays once\n"
+            shows(call([SEND, *words]), 3, "", said, of=f"{why}: {words}")
+
+        meets_nobody("No such file or directory", "--data", folder, "FRONT")
         with open(path, "wb"):
-            shows(run(["send", "--data", folder, "FRONT"]), 3, "", said, of="a file")
+            meets_nobody("Connection refused", "--data", folder, "FRONT")
         os.remove(path)
         with socket.socket(socket.AF_UNIX) as closed:
             closed.bind(path)
-        shows(run(["send", "--socket", path, "FRONT"]), 3, "", said, of="a socket on which nobody listens")
-        shows(run(["send", "--socket", path]), 3, "", said, of="no lines either")
-    for words in (["FRONT"], ["--data", "x", "--socket", "y", "FRONT"]):
-        shows(run(["send", *words]), 2, "", "payd: send: --data or --socket\n", of=f"{words}")
-    for words in (["--data"], ["--data", "x", "--data", "y"], ["--fly"]):
-        same(run(["send", *words])[:2], (2, ""), f"{words}")
+        meets_nobody("Connection refused", "--socket", path, "FRONT")
+        meets_nobody("Connection refused", "--socket", path)
+    for words in (["--data", "x", "--socket", "y", "FRONT"], ["--data"], ["--data", "x", "--fly"]):
+        same(call([SEND, *words])[:2], (2, ""), f"{words}")
 
 
 def length_of_a_call(silent):
@@ -376,23 +390,22 @@ def test_send_that_nobody_answers():
             caller = threading.Thread(target=lambda: calls.append(length_of_a_call(silent)))
             caller.start()
             began = time.monotonic()
-            was = run(["send", "--socket", path, "--timeout", f"{seconds}", "FRONT"])
+            was = call([SEND, "--socket", path, "--timeout", f"{seconds}", "FRONT"])
             waited = time.monotonic() - began
             caller.join()
-            shows(was, 3, "", f"payd: no answer after {seconds} seconds\n")
+            said = f"payd send: the node at {path} doesn't answer (timed out)"
+            shows(was, 3, "", f"{said}; a line may be given again, for its ID pays once\n")
             # (the call has no part in how long the program takes to begin and to end)
             same((seconds <= waited, calls[0] < seconds + 4), (True, True), f"{seconds} s: {waited}, {calls}")
         for word in ("0", "86401", "-1", "1s", ""):
-            said = f"payd: timeout {word}: no number of seconds from 1 to 86400\n"
-            shows(run(["send", "--socket", path, f"--timeout={word}", "FRONT"]), 2, "", said, of=f"timeout {word!r}")
+            same(call([SEND, "--socket", path, f"--timeout={word}", "FRONT"])[:2], (2, ""), f"timeout {word!r}")
 
 
 def test_line_feed_in_a_word():
     """It would be a line of its own, and might pay."""
     with Folders(OPENING, running=[0]) as group:
         for line in ("PAY 1 1 5\nPAY 2 2 95", "FRONT\n", "FRONT\r", "FR\x7fONT", "\x1bFRONT"):
-            was = send(group, 0, "FRONT", line)
-            shows(was, 2, "", "payd: word 5: a control character\n", of=repr(line))
+            same(send(group, 0, "FRONT", line)[:2], (2, ""), repr(line))
         shows(send(group, 0, "STATE 0 0"), 0, "state 0 0 unknown\n", of="no payment was sent")
 
 
@@ -405,10 +418,10 @@ def test_another_users_socket():
         barred.bind(path)
         barred.listen(1)
         os.chmod(path, 0o600)
-        program = os.path.join(folder, "payd")
-        shutil.copy(payd(), program)
-        was = call([program, "send", "--socket", path, "FRONT"], user=65534)
-        shows(was, 3, "", f"payd: you may not open {path}\n")
+        shutil.copy(os.path.join(TOP, "tools", "send"), folder)
+        shutil.copytree(os.path.join(TOP, "tools", "payd_tools"), os.path.join(folder, "payd_tools"))
+        status, output, errors = call([os.path.join(folder, "send"), "--socket", path, "FRONT"], user=65534)
+        same((status, output, f"{path} (Permission denied)" in errors), (3, "", True), errors)
 
 
 def stop(node):
@@ -420,7 +433,7 @@ def stop(node):
 
 def test_send_to_a_node_that_ends():
     with Folders(OPENING, running=[0]) as group:
-        words = [payd(), "send", "--data", os.path.dirname(socket_of(group, 0))]
+        words = [SEND, "--data", os.path.dirname(socket_of(group, 0))]
         how = {"stdin": subprocess.PIPE, "stdout": subprocess.PIPE, "stderr": subprocess.PIPE, "bufsize": 0}
         with subprocess.Popen(words, **how) as child:
             child.stdin.write(b"PAY 7 1 30\n")
@@ -432,12 +445,11 @@ def test_send_to_a_node_that_ends():
             group.kill(0)
             output, errors = child.communicate(timeout=PATIENCE)
         same((child.returncode, output), (3, b""), "the end")
-        advice = "payd: start the node, and give the lines again: an id is paid once\n"
-        same(errors.decode(), f"payd: the node ended before it answered\n{advice}", "what is said")
+        same("a line may be given again, for its ID pays once" in errors.decode(), True, f"what is said: {errors}")
 
 
 def test_sent_answers_to_nobody():
     with Folders(OPENING, running=[0]) as group:
-        words = [payd(), "send", "--data", os.path.dirname(socket_of(group, 0)), "FRONT"]
-        for status, errors in run_to_nobody(words):
-            same((status, errors), (3, "payd: engine 3 Write\n"), "answers that can't be written")
+        words = [SEND, "--data", os.path.dirname(socket_of(group, 0)), "FRONT"]
+        for (status, errors), why in zip(run_to_nobody(words), UNWRITTEN):
+            same((status, why in errors), (3, True), f"answers that can't be written: {errors}")

@@ -4,9 +4,9 @@ import json
 import os
 import stat
 
-from nodes import until
-from restarts import Folders
-from runs import TOP, call, key_texts, read_bytes, same, write_text
+from support.nodes import until
+from support.restarts import Folders
+from support.runs import TOP, call, key_texts, read_bytes, same, write_text
 
 OPENING = [100, 0, 0, 50]
 NAMES = ["Ada", "Bo", "Cy", "Di"]
@@ -118,7 +118,7 @@ def test_copies_that_fail_change_no_start():
         group.start(0).front()
         group.pay(0, 1, 1, 30, 0)
         group.settle([1, 0, 0, 0], [70, 30, 0, 50])
-        said = [f"payd: data-0/{name} can't be written\n" for name in COPIES]
+        said = [f"payd: data-0/{name} can't be written: it is a folder\n" for name in COPIES]
         status, _, errors = group.end(0)
         lines = [line for line in errors.splitlines(True) if "written" in line]
         same((status, lines), (0, said), "what is said of them")

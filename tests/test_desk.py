@@ -2,16 +2,17 @@
 
 import json
 import os
-import random
 import socket
 import subprocess
 import tempfile
 import threading
 
-import desks
-from advices import told_plainly
-from runs import EXAMPLE_GENESIS, GENESIS, SECONDS, TOP, payd, read_text, write_text
-from runs import example_keys, key_texts, of_file, run, same, shows, with_files
+from models import desks
+from support.advices import told_plainly
+from support.runs import (
+    EXAMPLE_GENESIS, GENESIS, SECONDS, TOP, payd, read_text, write_text, example_keys, of_file, run, same,
+    shows, with_files,
+)
 
 
 def desk(text, own=0, genesis=EXAMPLE_GENESIS, keys=None):
@@ -47,12 +48,6 @@ def test_no_more_than_a_thousand_entries_are_shown():
 def test_example_of_a_desk():
     text = read_text(os.path.join(TOP, "examples", "desk.txt"))
     shows(desk(text), 0, read_text(os.path.join(TOP, "examples", "desk-answers.txt")))
-
-
-def test_lines_that_are_no_command():
-    """And that are no text of a vector."""
-    for raw in (b"\xff\n", b"PAY 1 1 1\xff\n", b"FRONT\r\n"):
-        shows(desk(raw), 0, "refused 1 BadLine\n", of=f"{raw}")
 
 
 def test_long_lines_of_a_desk():
@@ -106,22 +101,6 @@ def test_desk_of_one_alone():
     ]
     files = {"g": {"members": 1, "faults": 0, "opening": [7]}, "k": {"own": 0, "keys": [""]}}
     shows(with_files(files, ["desk", "--genesis", "g", "--keys", "k"], lines_of(lines).encode()), 0, lines_of(answers))
-
-
-def test_desk_as_the_model_has_it():
-    seeded = random.Random(19)
-    for members in (2, 4, 7, 64, 128):
-        opening = [seeded.randrange(1000) for _ in range(members)]
-        own = seeded.randrange(members)
-        lines = desks.random_lines(seeded, members, 400)
-        model = desks.Desk(own, opening)
-        answers = [model.answer(line.encode("latin-1")) for line in lines]
-        files = {
-            "g": {"members": members, "faults": (members - 1) // 3, "opening": opening},
-            "k": {"own": own, "keys": key_texts(own, members)},
-        }
-        was = with_files(files, ["desk", "--genesis", "g", "--keys", "k"], lines_of(lines).encode("latin-1"))
-        shows(was, 0, lines_of(answers).encode("latin-1").decode(), of=f"{members} members")
 
 
 def test_all_numbers_of_a_desk_are_spent():

@@ -13,12 +13,12 @@ from contextlib import ExitStack, contextmanager
 from urllib.parse import urlsplit
 
 import pytest
-from browser import BROWSERS, ENTER, ESCAPE, TAB, Driver
-from nodes import PATIENCE, until, write_json
-from restarts import Folders
-from runs import SECONDS, TOP, key_texts, same
 
-from groups import Group
+from payd_tools.groups import Group
+from support.browser import BROWSERS, ENTER, ESCAPE, TAB, Driver
+from support.nodes import PATIENCE, until, write_json
+from support.restarts import Folders
+from support.runs import SECONDS, TOP, key_texts, same
 
 PAGE = os.path.join(TOP, "tools", "desk-page")
 NAMES = ["Ada", "Bo", "Cy", "Dee"]
@@ -66,8 +66,8 @@ class Served:
         same(status, 200, text)
         return json.loads(text)
 
-    def pay(self, order, to, amount, agreed=""):
-        """Status and value of what comes of a form."""
+    def pay(self, order, to, amount, agreed="covered"):
+        """Status and value of what comes of a form, in which this is agreed to."""
         form = {"id": str(order), "to": str(to), "amount": str(amount), "agreed": agreed}
         status, _, text = self.request("POST", "/pay", form)
         return status, json.loads(text)
@@ -108,6 +108,15 @@ def served(opening, *owns, **how):
 
 
 # ---- without a browser
+
+
+def test_page_tells_that_payments_stand_still():
+    with served([100, 0, 0, 50], 0, named=False) as (group, page):
+        until(lambda: page.state()["still"], None, of="a group that runs")
+        group.kill(2)
+        group.kill(3)
+        still = "payments stand still: 2 of 4 members run, 3 are needed"
+        until(lambda: page.state()["still"], still, of="two of four")
 
 
 def test_page_is_given_to_whom_it_belongs():
@@ -153,6 +162,7 @@ def test_page_answers_what_is_no_request():
             (b"POST /pay HTTP/1.1", b"Content-Length: \xd9\xa2\r\n", b"{}", 413),
             (b"POST /pay HTTP/1.1", b"Content-Length: " + 5000 * b"1" + b"\r\n", b"{}", 413),
             (b"POST /pay HTTP/1.1", b"Content-Length: 1024\r\n", 1024 * b"[", 400),
+            (b"POST /pay HTTP/1.1", b"Content-Length: 4097\r\n", b"{}", 413),
             (b"POST /pay HTTP/1.1", b"Content-Length: 1020\r\n", 204 * b'{"a":', 400),
             (b"GET /\xff HTTP/1.1", b"", b"", 404),
         ):
@@ -195,7 +205,7 @@ def test_page_waits_for_descriptors():
 
 
 def test_page_loads_nothing_from_elsewhere():
-    folder = os.path.join(TOP, "tools", "desk_page")
+    folder = os.path.join(TOP, "tools", "payd_tools", "page")
     for name in sorted(os.listdir(folder)):
         with open(os.path.join(folder, name), encoding="utf-8") as file:
             same(re.findall(r"https?:|url\(|@import|src=\"[^\"]*/|//[\w.]+/", file.read()), [], f"addresses in {name}")
@@ -204,29 +214,42 @@ def test_page_loads_nothing_from_elsewhere():
 def test_forms_pay_once():
     """By an id of their own, however often they are sent; and by none of what isn't a form."""
     with served([100, 0, 0, 50], 0) as (group, page):
+        same(page.pay(7, 1, 30, ""), (200, {"needs": "covered", "amount": "30", "left": "70"}), "what is asked first")
+        same(page.state()["waiting"], [], "what was asked for")
         same(page.pay(7, 1, 30), (200, {"seq": "0", "again": False}), "a covered payment")
         same(page.pay(7, 1, 30), (200, {"seq": "0", "again": True}), "the same form")
+        form = {"id": "9", "to": "1", "amount": "1", "agreed": "covered", "note_id": "10", "note": "für zwei"}
+        for again in (False, True):
+            status, _, text = page.request("POST", "/pay", form)
+            same((status, json.loads(text)), (200, {"seq": "1", "again": again}), "a payment with a note")
+        for note in ("a\tb", 990 * "x", "\ud800"):
+            same(page.request("POST", "/pay", {**form, "id": "11", "note": note})[0], 400, f"the note {note[:9]!r}")
+        unsaid = json.loads(page.request("POST", "/pay", {**form, "note": "another"})[2])["unsaid"]
+        same(unsaid.startswith("This form has asked"), True, f"another note by the same form: {unsaid}")
         status, said = page.pay(7, 2, 30)
         same((status, said["refused"]), (200, "4 IdUsed"), "another payment by it")
         same(page.pay(8, 0, 1)[1]["refused"], "3 ZeroOrSelf", "a payment to itself")
         same(page.pay(8, 4, 1)[1]["refused"], "2 NoAccount", "a payment to nobody")
-        same(page.pay(8, 1, 0)[1]["refused"], "3 ZeroOrSelf", "a payment of nothing")
-        for amount in ("01", "-1", "1.0", "1e3", " 1", "", "x", 2**64, "1\nPAY 9 1 1"):
+        for amount in ("0", "01", "-1", "1.0", "1e3", " 1", "", "x", 2**64, "1\nPAY 9 1 1"):
             same(page.pay(8, 1, amount)[0], 400, f"the amount {amount!r}")
         for body in (b"", b"{", b"[]", b"\xff", b'{"id": 1}', b"9" * 2000):
             same(page.request("POST", "/pay", body)[0] in (400, 413), True, f"the form {body[:20]!r}")
-        group.settle([1, 0, 0, 0], [70, 30, 0, 50])
+        group.settle([3, 0, 0, 0], [69, 31, 0, 50])
+        notes = lambda: [(it["to"], it["note"]) for it in page.state()["entries"]]
+        until(notes, [(1, "für zwei"), (1, None)], of="the entries")
 
 
 def test_uncovered_forms_are_held_back():
     """Against what the balance leaves once all that waits is paid, and against what the group owns."""
     with served([100, 0, 0, 50], 0) as (group, page):
-        same(page.pay(1, 1, 101), (200, {"needs": "uncovered", "short": "1"}), "one more than there is")
+        wanted = {"needs": "uncovered", "amount": "101", "short": "1"}
+        same(page.pay(1, 1, 101), (200, wanted), "one more than there is")
         same(page.pay(1, 1, 151)[1]["needs"], "beyond", "more than the group owns")
-        same(page.pay(1, 1, 151, "uncovered")[1]["needs"], "beyond", "agreed to as less")
+        for agreed in ("uncovered", "beyond"):
+            same(page.pay(1, 1, 151, agreed)[1]["needs"], "beyond", f"more than the group owns, agreed to as {agreed}")
         same(page.pay(1, 1, 120, "uncovered")[1]["seq"], "0", "agreed to")
         # all that waits counts, and not the balance alone
-        same(page.pay(2, 1, 1), (200, {"needs": "uncovered", "short": "21"}), "behind what waits")
+        same(page.pay(2, 1, 1), (200, {"needs": "uncovered", "amount": "1", "short": "21"}), "behind what waits")
         until(lambda: page.state()["short"], "20", of="what the first is short of")
         followed = {"seq": 0, "to": 1, "amount": "120", "state": "waiting"}
         until(lambda: page.state()["followed"], followed, of="the payment that was asked for last")
@@ -238,7 +261,8 @@ def test_uncovered_forms_are_held_back():
         same(state["balances"], ["20", "120", "0", "10"], "all balances then")
         same(page.pay(2, 1, 21)[1]["needs"], "uncovered", "one more than is left")
         same(page.pay(2, 1, 20)[1], {"seq": "1", "again": False}, "all that is left")
-        same(page.pay(3, 2, 2**64 - 1, "beyond")[1]["seq"], "2", "more than the group owns, agreed to")
+        same(page.pay(3, 2, 2**64 - 1, "beyond")[1]["needs"], "beyond", "the greatest amount of all")
+        same(page.state()["waiting"], [], "what waits then")
         same(page.state()["total"], "150", "what the group owns")
 
 
@@ -274,15 +298,15 @@ def test_pages_words():
     for words, status, said in (
         (["--data", "x", "--keys", "/none"], 1, "cannot read /none: No such file"),
         (["--data", "x", "--keys", f"{TOP}/examples/genesis.json"], 1, "it is no file of keys"),
-        (["--data", "x", "--keys", f"{TOP}/examples/keys-0.json", "--port", "70000"], 1, "port 70000"),
+        (["--data", "x", "--keys", f"{TOP}/examples/keys-0.json", "--port", "70000"], 2, "a number from 0 to 65535"),
         (["--data", "x", "--keys", f"{TOP}/examples/keys-0.json", "--socket", "y"], 2, "not allowed with"),
-        (["--keys", f"{TOP}/examples/keys-0.json"], 2, "--data --socket is required"),
-        ([], 2, "--data --socket is required"),
+        ([], 1, "member: there is no member here: it has no log (--data or PAYD_DATA names its folder)"),
         (["--data", "/none"], 1, "/none: there is no member here"),
         (["--socket", "y"], 1, "--keys is missing"),
         (["--socket", "y", "--keys", f"{TOP}/examples/desk.txt"], 1, "it is no file of JSON"),
     ):
-        done = subprocess.run([PAGE, *words], capture_output=True, text=True, timeout=SECONDS)
+        with tempfile.TemporaryDirectory() as folder:
+            done = subprocess.run([PAGE, *words], cwd=folder, capture_output=True, text=True, timeout=SECONDS)
         same((done.returncode, said in done.stderr), (status, True), f"{words}: {done.stderr}")
 
 
@@ -306,7 +330,7 @@ def test_page_begins_where_all_belongs_together():
         for keys, of, said in (
             (f"{place}/keys-1", None, f"these are the keys of member 1, and {place}/data-0 is that of 0"),
             (None, "opening", f"{place}/data-0 is a member of another group"),
-            (None, "broken", "group has to be 32 bytes in hexadecimal, in small letters"),
+            (None, "broken", "group has to be 64 digits 0-9 a-f"),
             ("foreign-keys", "group", "the keys are those of another group"),
             ("many-keys", "group", "the keys are those of another group"),
             (f"{place}/keys-0", "of-three", "the keys are those of another group"),
@@ -359,25 +383,40 @@ def test_payment_settles_at_the_payees_page():
         until(lambda: ada.run("return location.hash"), "#pay", of="the link to the form")
         ada.press(TAB, "B", TAB, *"30")
         shows(ada, "#hint", "Covered: 70 stay free.")
+        ada.press(TAB, *"Pizza <b>Friday</b>")
         ada.press(ENTER)
+        shows(ada, "#second-head", "Pay 30 to Bo?")
+        same((ada.text("#why"), ada.text("#agree")), ("It leaves 70 free.", "Pay"), "what is asked once")
+        same(bo.rows("#entries"), [], "what came before it was agreed to")
+        ada.press(TAB, TAB, ENTER)
         shows(ada, "#followed", "Settled: 30 to Bo, seq 0 of account 0.")
         shows(ada, "#balance", "70")
         shows(bo, "#balance", "30")
         same(ada.text("#why-waits"), "Nothing waits.", "what waits")
         for tab, who, amount in ((ada, "to Bo", "\u221230"), (bo, "from Ada", "+30")):
+            wanted = f"{who}\nPizza <b>Friday</b>"
+            until(lambda tab=tab: [it[0] for it in tab.rows("#entries")], [wanted], of="the payment with its note")
             (row,) = tab.rows("#entries")
-            same([row[0], row[1], row[3]], [who, "account 0, seq 0", amount], "the entry")
+            same([row[1], row[3]], ["account 0, seq 0", amount], "the entry")
             same(re.fullmatch(r"\d\d:\d\d:\d\d", row[2]) is not None, True, f"when it was seen: {row[2]}")
-        same(group.nodes[0].ask("NOTE 1 seq 0 <b>17</b>"), "asked 1 seq 1", "a note")
-        until(lambda: ada.rows("#entries")[0][0], "note: seq 0 <b>17</b>", of="the note")
+        same(group.nodes[0].ask("NOTE 1 seq 0 <b>17</b>"), "asked 1 seq 2", "another note")
+        until(lambda: ada.rows("#entries")[0][0], "note: seq 0 <b>17</b>", of="the note, apart")
+        until(lambda: bo.rows("#entries")[0][0], "Ada: note: seq 0 <b>17</b>", of="the note, apart, at the payee")
         for tab in (ada, bo):
-            rows = [["0", "Ada", "70", "2"], ["1", "Bo", "30", "0"], ["2", "Cy", "0", "0"], ["3", "Dee", "50", "0"]]
+            rows = [["0", "Ada", "70", "3"], ["1", "Bo", "30", "0"], ["2", "Cy", "0", "0"], ["3", "Dee", "50", "0"]]
             until(lambda: tab.rows("#accounts"), rows, of="all accounts")
-        group.settle([2, 0, 0, 0], [70, 30, 0, 50])
+        group.settle([3, 0, 0, 0], [70, 30, 0, 50])
+
+
+# What is said of a payment of 120 that the balance of 100 doesn't cover.
+BLOCKS = (
+    "It is 20 more than what is free. Until so much comes in it waits, and until then this account can pay nobody: "
+    "each later payment waits behind it. It can’t be taken back."
+)
 
 
 @in_browser
-def test_uncovered_payment_wants_a_second_click():
+def test_uncovered_payment_says_what_it_blocks():
     with Driver() as driver, served([100, 0, 0, 50], 0) as (group, page):
         tab = driver.tab(page.address)
         shows(tab, "#balance", "100")
@@ -387,7 +426,7 @@ def test_uncovered_payment_wants_a_second_click():
             tab.click("#ask")
             until(lambda: tab.is_shown("#second"), True, of="the question")
             same((tab.focused(), tab.is_shown("#ask")), ("second-head", False), "where the keys are")
-            same(tab.text("#why").startswith("It is 20 more than what is free."), True, "why it asks")
+            same((tab.text("#second-head"), tab.text("#why")), ("Pay 120 to Dee all the same?", BLOCKS), "why it asks")
             leave()
             shows(tab, "#outcome", "Nothing was asked for.")
         same(page.state()["waiting"], [], "what was asked for")
@@ -404,21 +443,24 @@ def test_uncovered_payment_wants_a_second_click():
         same(tab.text("#desk").startswith("Member 0 of 4 · group "), True, "whose desk it is")
         same(tab.text("#free"), "What waits needs 20 more.", "what is free")
         fill(tab, "1", "1 000 000")
-        shows(tab, "#hint", "Not covered, ever: the whole group owns 150.")
-        tab.click("#ask")
-        until(lambda: tab.is_shown("#second"), True, of="the question")
-        same(tab.text("#why").startswith("It is more than the 150 that the whole group owns."), True, "why it asks")
-        tab.click("#leave")
+        shows(tab, "#hint", "It can never settle: the whole group owns 150.")
+        same(tab.is_shown("#ask"), False, "whether there is a button for it")
+        tab.write("#amount", ENTER)
+        shows(tab, "#outcome", "It can never settle: the whole group owns 150. Nothing was asked for.")
+        fill(tab, "1", "1")
+        until(lambda: tab.is_shown("#ask"), True, of="the button for another amount")
         group.pay(3, 1, 0, 20, 0)
         shows(tab, "#why-waits", "Nothing waits.")
         shows(tab, "#balance", "0")
         shows(tab, "#followed", "Settled: 120 to Dee, seq 0 of account 0.")
         same(tab.run(steps), ["Asked", "Delivered", "Settled"], "how far it is")
         same([row[0] for row in tab.rows("#entries")], ["to Dee", "from Dee"], "what came and went")
-        tab.click("#ask")
-        until(lambda: tab.is_shown("#second"), True, of="the question")
-        tab.click("#agree")
+        same(group.nodes[0].ask("PAY 99 1 1000000"), "asked 99 seq 1", "what never settles, asked for at the desk")
         shows(tab, "#why-waits", "The first never settles: the whole group owns 150.")
+
+
+# The colour of what is old, on a light ground.
+GREY = "rgb(90, 98, 107)"
 
 
 @in_browser
@@ -428,8 +470,11 @@ def test_node_ends_and_starts_behind_the_page():
         tab = driver.tab(page.address)
         shows(tab, "#balance", "100")
         group.kill(0)
-        until(lambda: tab.text("#node").partition(" at ")[0], "The node doesn’t answer: nobody listens", of="it")
-        same((tab.text("#balance"), "What is shown was so at" in tab.text("#node")), ("100", True), "what it knew")
+        said = r"As of \d\d:\d\d: the node doesn’t answer: nobody listens at .*"
+        until(lambda: re.fullmatch(said, tab.text("#node")) is not None, True, of="what is said of it")
+        color = "return getComputedStyle(document.querySelector(arguments[0])).color"
+        same((tab.text("#balance"), tab.run(color, "#balance")), ("100", GREY), "what it knew, greyed")
+        same(tab.run("return document.title").startswith("As of "), True, "the title")
         fill(tab, "1", "30")
         tab.click("#ask")
         until(lambda: "this form pays once" in tab.text("#outcome"), True, of="what comes of it")
@@ -441,12 +486,14 @@ def test_node_ends_and_starts_behind_the_page():
         until(lambda: page.pay(order, 1, 30)[1].get("seq"), "0", of="the payment, which may come too early at first")
         until(lambda: tab.run("return document.getElementById('to').value"), "1", of="the form")
         shows(tab, "#balance", "70")
+        same((tab.run(color, "#balance") == GREY, tab.run("return document.title")[:3]), (False, "70 "), "what is new")
         tab.click("#ask")
         until(lambda: tab.text("#followed").endswith("It had been asked for before, and is paid once."), True, of="it")
         same(tab.run("return sessionStorage.getItem('order')"), None, "the form's id")
         group.settle([1, 0, 0, 0], [70, 30, 0, 50])
         page.end()
-        until(lambda: tab.text("#node").startswith("payd desk-page doesn’t answer"), True, of="what it says")
+        until(lambda: "payd desk-page doesn’t answer: is it" in tab.text("#node"), True, of="what it says")
+        same(tab.run(color, "#balance"), GREY, "what it knew then")
 
 
 @in_browser
@@ -497,6 +544,7 @@ return texts.map((it) => {
 """
 # What a reader of the screen has to find once.
 TOLD = [("main", ""), ("banner", ""), ("heading", "Ada, account 0"), ("combobox", "To"), ("textbox", "Amount")]
+TOLD += [("textbox", "What for")]
 TOLD += [("region", it) for it in ("Balance", "Pay", "What waits", "What came and went", "The group")]
 TOLD += [("table", it) for it in ("What waits", "What came and went", "The group")]
 TOLD += [("columnheader", it) for it in ("Who", "Account and seq", "Seen", "Seq", "Whose")]

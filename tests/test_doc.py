@@ -1,5 +1,5 @@
 """Whether what the pages name is there: files and headings that links lead to, and calls; whether their made parts are
-what the sources give, and the rest is short; and whether each script says how it is called."""
+what the sources give, and their sentences short; and whether each script says how it is called."""
 
 import itertools
 import os
@@ -7,24 +7,26 @@ import re
 import subprocess
 from concurrent.futures import ThreadPoolExecutor
 
-from runs import SECONDS, TOP, same
+from payd_tools.repository.inventory import files_below, read_crates, read_file
+from payd_tools.repository.parts import faults_of_marks, faults_of_pages, names_of_promises, promises, remade
+from support.prose import count_words, retired_words, sentences
+from support.runs import SECONDS, TOP, same
 
-from inventory import files_below, read_crates, read_file
-from parts import by_hand, faults_of_marks, faults_of_pages, promises, remade
-
-# Words of README.md, and of it and docs/ together.
-MOST_WORDS, MOST_BY_HAND = 900, 13_000
-
-PAGES = ["README.md", "CONTRIBUTING.md", "CHANGELOG.md"]
+PAGES = ["README.md", "CONTRIBUTING.md", "CHANGELOG.md", "vectors/README.md"]
 PAGES += [f"docs/{it}" for it in files_below(f"{TOP}/docs", ".md")]
 PUBLIC = re.compile(r"^ *pub fn (\w+)", re.MULTILINE)
 # What may be a call, a type, a crate or a clause, on pages whose names are those of the tree.
 CALL = re.compile(r"`(\w+(?:::\w+)*)`")
-OF_NAMES = "PROMISES", "DEFINITIONS", "DECISIONS", "COMMANDS", "HEADLINE", "MAP", "GATE"
+OF_NAMES = "guarantees", "clauses", "formats", "decisions", "commands", "errors", "theorem", "architecture"
+OF_NAMES += "assumptions", "concepts", "guide", "MAP"
 # What may be a path of the tree or the name of a crate.
 PATH = re.compile(r"`((?:[a-z]\w*/)*[\w-]+(?:\.\w+)?)`", re.ASCII)
-# What definitions are compared with.
-OF_THE_BOOK = {"sentecho", "sentready"}
+# What definitions are compared with, and what others call their own: packages, libraries, words of formats.
+OF_OTHERS = {"sentecho", "sentready"}
+# How long the sentences of a page are on average at most, and the longest of them.
+MEAN_WORDS, MOST_WORDS = 20, 35
+# The faults that a user can meet, of which each stands on the page of errors.
+FAULTS = "Desk", "Log", "Link", "Frame", "Genesis", "Keys", "Ports", "Export", "Liar", "Engine"
 
 
 def headings_of(page):
@@ -83,20 +85,42 @@ def test_links_lead_somewhere():
             same(not heading or heading in headings.get(path, []), True, f"{page}: a link to {path}#{heading}")
 
 
-def words_by_hand(page):
-    """How many words of a page are kept by hand: what has a letter or a digit."""
-    return len(re.findall(r"\S*\w\S*", by_hand(read_file(f"{TOP}/{page}"))))
-
-
-def test_pages_are_short():
-    words = {page: words_by_hand(page) for page in PAGES if page == "README.md" or page.startswith("docs/")}
-    same(words["README.md"] <= MOST_WORDS, True, f"README.md: {MOST_WORDS} words at most")
-    same(sum(words.values()) <= MOST_BY_HAND, True, f"{MOST_BY_HAND} words at most by hand: {words}")
-
-
 def test_made_parts_are_what_the_sources_give():
     crates = read_crates()
     same([*faults_of_marks(crates, promises()), *faults_of_pages(crates)], [], "tools/contracts --write")
+
+
+def test_sentences_are_short():
+    """Of each page but for tables, code and made parts."""
+    for page in PAGES:
+        counted = {it: count_words(it) for it in sentences(read_file(f"{TOP}/{page}"))}
+        same([it for it, count in counted.items() if count > MOST_WORDS], [], f"{page}: sentences that are too long")
+        mean = sum(counted.values()) / max(len(counted), 1)
+        same(mean <= MEAN_WORDS, True, f"{page}: {mean:.1f} words a sentence")
+
+
+def test_sentences_are_counted():
+    page = "# Head\n\nOne `a b` two. Three [four](five)!\n\n| not | this |\n\n- Six, seven\n  eight.\n- Nine.\n"
+    same([count_words(it) for it in sentences(page)], [3, 2, 3, 1], "words of each sentence")
+    same([*retired_words("The `liar` is *lied*, \"lies\".\n\n    lies\n")], [], "what is quoted")
+    found = [it.partition(" (")[0] for it in retired_words("A liar, whose tag\nis brought. An authentication tag.\n")]
+    same(found, ["liar", "tag", "whose", "brought"], "words that aren't used")
+
+
+def test_pages_have_the_words_of_the_trade():
+    for page in PAGES:
+        same([*retired_words(read_file(f"{TOP}/{page}"))], [], f"{page}: words that pages don't use")
+
+
+def test_each_fault_has_its_line():
+    page = read_file(f"{TOP}/docs/errors.md")
+    entry, found = re.compile(r'(\w+)Fault::\w+(?:\(_\))? => \((\d+), "(\w+)"\)'), []
+    for path in (it for it in files_below(f"{TOP}/crates", ".rt") if "/src/" in it):
+        for kind, number, name in entry.findall(read_file(f"{TOP}/crates/{path}")):
+            found += [f"{number} {name}"] if kind in FAULTS else []
+    same(len(found) > 50, True, f"faults: {len(found)}")
+    missing = [it for it in found if it not in page and it != "1 Frame"]
+    same(missing, [], "faults that the page of errors lacks")
 
 
 def test_contracts_of_all_are_printed():
@@ -118,7 +142,8 @@ def test_contracts_of_all_are_printed():
 
 def test_wrong_mark_is_told_of():
     """A clause that is gone, one of another name, and a promise that is none."""
-    page = read_file(f"{TOP}/docs/PROMISES.md")
+    page = read_file(f"{TOP}/docs/clauses.md")
+    same(names_of_promises()["nothing is lost"], "sync before send", "the name of a guarantee")
     for change, fault in (
         (lambda it: it.ensures.remove("gated"), "pay_durable: {} has no clause gated"),
         (lambda it: it.marks.append(("nothing is won", [])), "pay_durable: {}: there is no promise nothing is won"),
@@ -137,7 +162,7 @@ def test_named_calls_stand():
     names = names_of_the_tree()
     for page in ("README.md", *(f"docs/{it}.md" for it in OF_NAMES)):
         called = {part for it in CALL.findall(read_file(f"{TOP}/{page}")) for part in it.split("::")}
-        unknown = {it for it in called - names - OF_THE_BOOK if not it[0].isdigit()}
+        unknown = {it for it in called - names - OF_OTHERS if not it[0].isdigit()}
         same(sorted(unknown), [], f"{page}: names that nothing has")
 
 
@@ -166,3 +191,20 @@ def test_each_script_says_how_it_is_called():
     calls = itertools.product(found, (("--help", 0), ("-h", 0), ("--no-such-word", 2)))
     with ThreadPoolExecutor(len(os.sched_getaffinity(0))) as pool:
         list(pool.map(says_usage, calls))
+
+
+# A line of a list of options that has none, or one with no words behind it.
+WORDLESS = re.compile(r"^  ([a-z-](?:\S| (?! ))*)\n(?!      )", re.MULTILINE)
+
+
+def test_each_option_has_words():
+    """Of each tool, and of each command of `payd group`."""
+    tools = re.findall(r"^  ([a-z-]+) ", read_file(f"{TOP}/tools/words"), re.MULTILINE)
+    of_group = "new", "public", "make", "show", "keys", "next", "check-next", "tunnels"
+    for words in [*([it] for it in tools), *(["group", it] for it in of_group)]:
+        call = [f"{TOP}/tools/{words[0]}", *words[1:], "--help"]
+        done = subprocess.run(call, capture_output=True, text=True, timeout=SECONDS)
+        same((done.returncode, done.stderr), (0, ""), f"{call}")
+        said = done.stdout
+        listed = said.partition("positional arguments:\n")[2] or said.partition("options:\n")[2]
+        same(WORDLESS.findall(listed), [], f"payd {' '.join(words)}: options without words")

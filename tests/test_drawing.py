@@ -6,7 +6,7 @@ import subprocess
 import tempfile
 import xml.etree.ElementTree as xml
 
-from runs import SECONDS, TOP, UNWRITTEN, read_text, run_to_nobody, same, write_text
+from support.runs import SECONDS, TOP, UNWRITTEN, read_text, run_to_nobody, same, write_text
 
 DRAW = os.path.join(TOP, "tools", "draw")
 EXAMPLES = os.path.join(TOP, "examples")

@@ -6,10 +6,11 @@ import subprocess
 import time
 
 import pytest
-from nodes import until
-from peers import Strangers
-from restarts import Folders
-from runs import SECONDS, read_text, same
+
+from support.nodes import until
+from support.peers import Strangers
+from support.restarts import Folders
+from support.runs import SECONDS, TOP, call, read_text, same
 
 OPENING = [100, 0, 0, 50]
 READS = 1_000_000
@@ -54,7 +55,7 @@ def file_of(group, own):
 
 
 def figures_in(text):
-    """The values under each name, of a text in which each name has its lines # HELP and # TYPE before them."""
+    """The values under each name that has any, of a text in which its lines # HELP and # TYPE stand before them."""
     same(text.endswith("\n"), True, f"whether the text is whole: {text!r}")
     values, name = {}, None
     for line in text.splitlines():
@@ -129,32 +130,23 @@ def test_figures_are_those_of_the_desk():
         until(lambda: shown(group, 0)["payd_history_entries_total"], entries, of="entries that nobody added")
 
 
-def test_figures_are_written_as_a_whole():
-    """Each time as a new file, which then has the name of the old one: a reader has the whole of one or the other."""
-    with Folders(OPENING, running=[0]) as group:
+def test_figures_are_written_as_a_whole_each_five_seconds():
+    """Each time as a new file, which then has the name of the old one: a reader has the whole of one or the other. Of
+    the first three one may be late by the system's clock, on a busy machine."""
+    with Folders(OPENING, running=[0], claiming=[]) as group:
         shown(group, 0)
-        path, versions = file_of(group, 0), set()
+        path, written = file_of(group, 0), {}
+        # (no peer runs, so none was heard)
+        names = [it for it in KINDS if it != "payd_peer_silent_seconds"]
         with open(path, encoding="ascii") as first:
-            while len(versions) < 3:
+            while len(written) < 3:
                 # (a file that is open keeps its number, so no later one has it too)
-                versions.add(os.stat(path).st_ino)
-                same(list(shown(group, 0)), list(KINDS), "the names")
-            same(list(figures_in(first.read())), list(KINDS), "the names of one that was opened before")
+                about = os.stat(path)
+                written[about.st_ino] = about.st_mtime
+                same(list(shown(group, 0)), names, "the names")
+            same(list(figures_in(first.read())), names, "the names of one that was opened before")
         same(os.path.exists(f"{path}.new"), False, "whether one that isn't whole is left")
-
-
-def test_figures_are_written_each_five_seconds():
-    """By the system's clock, of the first three files: on a busy machine one of them may be late."""
-    with Folders(OPENING, running=[0]) as group:
-        shown(group, 0)
-        times = []
-
-        def count():
-            written = os.stat(file_of(group, 0)).st_mtime
-            times.extend([written] * (written not in times))
-            return len(times)
-
-        until(count, 3, of="files")
+        times = [*written.values()]
         between = [later - former for former, later in zip(times, times[1:])]
         same((4.9 <= min(between), min(between) < 9), (True, True), f"the seconds between them: {between}")
 
@@ -176,13 +168,13 @@ def test_figures_end_with_their_node():
 
 
 def test_figures_that_cannot_be_written_harm_nobody():
-    """It is said once."""
+    """It is said once, and why."""
     with Folders(OPENING, running=[0]) as group:
         shown(group, 0)
         group.end(0)
         os.mkdir(f"{file_of(group, 0)}.new")
         node = group.start(0)
-        said = "payd: data-0/status.prom can't be written\n"
+        said = "payd: data-0/status.prom.new can't be written: it is a folder\n"
         until(lambda: (node.news(), said.encode() in node.said)[1], True, of="what is said")
         same(node.ask("BALANCE 1"), "balance 1 0", "a balance")
         same((node.front(), os.path.exists(file_of(group, 0))), ([0, 0, 0, 0], False), "the node, and the file")
@@ -191,13 +183,13 @@ def test_figures_that_cannot_be_written_harm_nobody():
 
 
 def test_figures_of_a_peer_with_another_key():
-    with Folders(OPENING, running=[0]) as group:
+    with Folders(OPENING, running=[0], claiming=[]) as group:
         shown(group, 0)
         with Strangers(1, 0, group.ports[0]) as strangers:
             strangers.dial().sendall(strangers.want(0, key=bytes(32)))
             until(lambda: shown(group, 0)["payd_peer_unopened"], [1, 0, 0], of="whose frames don't open")
         figures = shown(group, 0)
-        same((figures["payd_peer_met"], figures["payd_peer_silent_seconds"]), ([0, 0, 0], []), "who was heard")
+        same((figures["payd_peer_met"], "payd_peer_silent_seconds" in figures), ([0, 0, 0], False), "who was heard")
         same(figures["payd_peer_asked_frames_total"], [0, 0, 0], "what was asked for")
 
 
@@ -250,3 +242,17 @@ def test_the_end_of_an_accounts_values_is_said_before():
             lines = [it for it in node.said.decode().splitlines(True) if "values of this account" in it]
             same((len(lines), line in lines), (said, count in (58_983, 64_881)), f"what is said at {count}: {lines}")
         same(shown(group, 0)["payd_values_left"], [655], "values that are left")
+
+
+ALERTS = os.path.join(TOP, "examples", "alerts.yml")
+
+
+def test_alerts_are_of_figures_that_a_node_writes():
+    named = set(re.findall(r"\bpayd_\w+", read_text(ALERTS)))
+    same((sorted(named - KINDS.keys()), len(named) >= 4), ([], True), "figures that no node writes")
+
+
+@pytest.mark.needs("promtool")
+def test_alerts_are_rules():
+    status, output, errors = call(["promtool", "check", "rules", ALERTS])
+    same((status, "4 rules found" in output), (0, True), errors)

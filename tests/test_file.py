@@ -4,13 +4,24 @@ import json
 import os
 import subprocess
 
-from test_check import BAD_TAG, NOT_FOR_ME, REPEAT_LINE, TAKEN_LINE, TWICE, UNKNOWN_OWNER, UNKNOWN_SENDER
-from frames import ECHO, READY, SEND, frame
-from runs import EXAMPLE_GENESIS, GENESIS, GENESIS_ROWS, KEYS_ROWS, SECONDS, payd
-from runs import example_keys, key_texts, of_file, of_keys, run, same, shows, with_files
+from payd_tools.frames import ECHO, READY, SEND, frame
+from support.runs import (
+    EXAMPLE_GENESIS, GENESIS, GENESIS_ROWS, KEYS_ROWS, SECONDS, payd, example_keys, key_texts, of_file, of_keys, run,
+    same, shows, with_files,
+)
+from test_check import BAD_TAG
 
-# The four refusals as member 1 of four with the test keys has them.
+# Three more frames that member 1 of 4 refuses, each for another cause, and all refusals as it has them with the test
+# keys.
+NOT_FOR_ME = bytes.fromhex("0036010100000002") + bytes(48)
+UNKNOWN_SENDER = bytes.fromhex("0036010100010001") + bytes(48)
+UNKNOWN_OWNER = bytes.fromhex("003601010000000100000000000000000004") + bytes(38)
 REFUSED_LINES = "1 refused 4 BadTag\n2 refused 1 NotForMe\n3 refused 2 UnknownSender\n4 refused 3 UnknownOwner\n"
+
+# The first frame of member 0 for member 1, twice.
+TWICE = 2 * frame(SEND, 0, 1, 0)
+TAKEN_LINE = "1 ok send from 0 number 0 owner 0 seq 0 value 0\n"
+REPEAT_LINE = "2 refused 5 Repeat next 1\n"
 
 
 def test_files_that_say_the_defaults():
@@ -160,18 +171,3 @@ def test_files_from_a_pipe():
     )
     os.close(source)
     same((done.returncode, done.stdout.decode(), done.stderr), (0, TAKEN_LINE + REPEAT_LINE, b""), "a pipe")
-
-
-def test_options_as_they_may_be_written():
-    for words in (
-        ["check", "--genesis"],
-        ["check", "--keys"],
-        ["check", "--genesis", EXAMPLE_GENESIS, "--genesis", EXAMPLE_GENESIS],
-        ["check", "--keys", example_keys(1), "--keys", example_keys(1)],
-        ["--genesis", EXAMPLE_GENESIS],
-        ["check", "-g", EXAMPLE_GENESIS],
-        ["check", EXAMPLE_GENESIS],
-    ):
-        status, output, errors = run(words, TWICE)
-        same((status, output), (2, ""), f"{words}")
-        same(errors != "", True, f"{words}: standard error has a word")

@@ -12,17 +12,21 @@ import subprocess
 import sys
 import tempfile
 
-import group_model
-import pytest
-from frames import ECHO, READY, SEND, frame, payment
-from nodes import UNOPENED, Node, free_ports, until, write_json
-from peers import Server
-from runs import SECONDS, TOP, call, of_file, payd, read_text, same, write_text
+from cryptography.hazmat.primitives import serialization
+from cryptography.hazmat.primitives.asymmetric.ed25519 import Ed25519PrivateKey
 
-import groups
+import pytest
+
+from models import group_model
+from payd_tools import groups
+from payd_tools.frames import ECHO, HEAD, READY, SEND, frame, is_challenge, payment
+from support.nodes import UNOPENED, Node, free_ports, until, write_json
+from support.peers import Server, received
+from support.runs import SECONDS, TOP, call, of_file, payd, read_text, same, write_text
 
 TOOL = os.path.join(TOP, "tools", "group")
 MEMBERS = 4
+RAW = serialization.Encoding.Raw, serialization.PublicFormat.Raw
 
 
 def tool(folder, *words):
@@ -93,20 +97,73 @@ def test_keys_are_derived_as_rfc_5869_says():
     same(groups.derived(secret, salt, info).hex(), whole[:64], "a derived key")
 
 
-# ---- what is written
+# The secret and public keys of RFC 8032, section 7.1.
+OF_RFC_8032 = [
+    (
+        "9d61b19deffd5a60ba844af492ec2cc44449c5697b326919703bac031cae7f60",
+        "d75a980182b10ab7d54bfed3c964073a0ee172f3daa62325af021a68f707511a",
+    ),
+    (
+        "4ccd089b28ff96da9db6c346ec114e0f5b8a319f35aba624da8cf6ed4fb8a6fb",
+        "3d4017c3e843895a92b70aa74d1b7ebc9c982ccf2ec4968cc0cd55f12af4660c",
+    ),
+    (
+        "c5aa8df43f9f837bedb7442f31dcb7b166d38535076f094b85ce3a2e0b4458f7",
+        "fc51cd8e6218a1a38da47ed00230f0580816ed13ba3303ac5deb911548908025",
+    ),
+]
+# The points of an order up to 8 in each way in which they may be written: Chalkias, Garillot and Nikolaenko, "Taming
+# the many EdDSAs", table 1. Of the last six a strict reader says that they are no points.
+OF_SMALL_ORDER = [
+    "01" + "00" * 31,
+    "ec" + "ff" * 30 + "7f",
+    "00" * 32,
+    "00" * 31 + "80",
+    "26e8958fc2b227b045c3f489f2ef98f0d5dfac05d3c63339b13802886d53fc05",
+    "26e8958fc2b227b045c3f489f2ef98f0d5dfac05d3c63339b13802886d53fc85",
+    "c7176a703d4dd84fba3c0b760d10670f2a2053fa2c39ccc64ec7fd7792ac037a",
+    "c7176a703d4dd84fba3c0b760d10670f2a2053fa2c39ccc64ec7fd7792ac03fa",
+    "01" + "00" * 30 + "80",
+    "ec" + "ff" * 31,
+    *(first + "ff" * 30 + last for first in ("ee", "ed") for last in ("7f", "ff")),
+]
+# No point of the curve has this y.
+NO_POINT = "02" + "00" * 31
 
 
-def test_each_member_derives_its_own_file_of_keys(folder):
-    """As the model has it, alike for both of a pair, and for each pair another key."""
+def test_keys_for_signatures_are_those_of_rfc_8032():
+    for secret, public in OF_RFC_8032:
+        made = Ed25519PrivateKey.from_private_bytes(bytes.fromhex(secret)).public_key()
+        same(made.public_bytes(*RAW).hex(), public, f"the public key of {secret}")
+        same(groups.is_for_signatures(bytes.fromhex(public)), True, public)
+    same(len(set(OF_SMALL_ORDER)), 14, "how many there are")
+    for place, it in enumerate(OF_SMALL_ORDER):
+        point = groups.point_of(bytes.fromhex(it))
+        same((point is None, groups.is_for_signatures(bytes.fromhex(it))), (place >= 8, False), it)
+    same(groups.point_of(bytes.fromhex(NO_POINT)), None, "what is no point")
+
+
+def test_a_key_by_which_anyone_signs_is_refused(folder):
+    """By each command that takes it: under some of these a signature of zeros is right, whatever is signed."""
     group = json.loads(read(folder, "group.json"))
-    for own in range(MEMBERS):
-        write_keys(folder, own)
-    made = [json.loads(read(folder, f"keys-{own}")) for own in range(MEMBERS)]
-    for own in range(MEMBERS):
-        same(made[own], group_model.keys(group, own, secret_of(folder, own)), f"the keys of member {own}")
-        for peer in range(MEMBERS):
-            same(made[own]["keys"][peer], made[peer]["keys"][own], f"the key of {own} and {peer}")
-    same(len({key for it in made for key in it["keys"]}), 1 + MEMBERS * (MEMBERS - 1) // 2, "different keys")
+    why = "the key for signatures of member {} is none: anyone could sign as this member"
+    exports = put_exports(folder, (0, 1, 3), "group.json")
+    public = group["public"]
+    for bad in (*OF_SMALL_ORDER, NO_POINT):
+        handed = public[3][:64] + bad
+        put(folder, "bad.json", json.dumps({**group, "public": [*public[:3], handed]}))
+        for words in (["show", "bad.json"], ["keys", "bad.json", "0.secret", "k"]):
+            told = 1, "", f"payd group: bad.json: {why.format(3)}\n"
+            same(tool(folder, *words), told, f"{words[0]} with {bad}")
+    make = ["make", "--faults", "1", "--opening", "1,..", *public[:3], handed]
+    same(tool(folder, *make), (1, "", f"payd group: {why.format(3)}\n"), "make")
+    joins = "0" * 62 + "09" + NO_POINT
+    for words, member in ((["--rekeys", f"3:{handed}"], 3), (["--joins", joins], 4)):
+        told = follows(folder, "next", *words, "group.json", *exports)
+        same(told, (1, "", f"payd group: {why.format(member)}\n"), f"next {words[0]}")
+
+
+# ---- what is written
 
 
 def test_a_fingerprint_is_of_all_but_ports_and_hosts(folder):
@@ -161,7 +218,7 @@ import os, runpy, sys
 os.umask(0)
 was = os.open
 def seen(name, flags, *mode, **other):
-    if flags & os.O_ACCMODE != os.O_RDONLY:
+    if flags & os.O_ACCMODE != os.O_RDONLY and name != os.devnull:
         print(name, bool(flags & os.O_EXCL), *map(oct, mode), file=sys.stderr)
     return was(name, flags, *mode, **other)
 os.open = seen
@@ -190,17 +247,24 @@ def test_nothing_is_written_over(folder):
     same(tool(folder, "keys", "group.json", "0.secret")[0], 2, "keys without a file")
 
 
-# Empty, no text, with what can't be seen, of another alphabet, to be taken for a number or for several words.
-NO_NAMES = "", 7, "c\n", "c\u200b", "\u0430nn", "ç", " c", "c ", "c  d", "7", "c:d", "c,d", "-c", "c" * 33
+# Empty, no text, with what can't be seen or turns what follows, of two scripts, not composed, to be taken for a number
+# or for several words.
+NO_NAMES = "", 7, "c\n", "c\u200b", "c\u202ed", "\u0430nn", "e\u0301", "\u0301", " c", "c ", "c  d", "7", "\u0663"
+NO_NAMES += "c:d", "c,d", "-c", "c\u0663", "\u2467", "\ud800", "c" * 64
 ALIKE = ("Bob", "Bob"), ("Bob", "bob"), ("Bob", "B0b"), ("Al", "AI"), ("Al", "A1"), ("Barny", "Bamy"), ("A B", "A-B")
+# The second of each is Cyrillic, Greek, with an accent, and of full width.
+ALIKE += ("cop", "\u0441\u043e\u0440"), ("Nik", "\u039d\u03b9\u03ba"), ("Zoe", "Zo\u00eb")
+ALIKE += (("Bob", "\uff22\uff4f\uff42"),)
+NAMES_OF_SCRIPTS = "Zo\u00eb", "\u0411\u043e\u0431", "\u0938\u0940\u0924\u093e", "\u674e\u660e"
 
 
 def test_a_file_that_is_no_group_is_refused(folder):
     group = json.loads(read(folder, "group.json"))
-    public, digits = group["public"], "32 bytes in hexadecimal, in small letters"
+    public, digits = group["public"], "64 digits 0-9 a-f"
+    handed = f"public: that of member 3 isn't {digits}, or 128 with the key for signatures"
     members = "for each of the 4 members"
-    names, alike = "isn't a name of ASCII letters and digits", "have names that look alike"
-    hosts = "isn't a host, or one with its key for WireGuard"
+    names, alike = "isn't a name of letters and digits of one script, NFC", "have names that look alike"
+    hosts = "isn't a host"
     rows = [
         ({"members": 0}, "a group has 1 to 128 members"),
         ({"members": True}, "a group has 1 to 128 members"),
@@ -216,8 +280,8 @@ def test_a_file_that_is_no_group_is_refused(folder):
         *(({"hosts": ["a", it, "c", "d"]}, f"hosts: that of member 1 {hosts}") for it in ("-oX=y", "a b", "::1")),
         ({"former": "00"}, f"former has to be {digits}"),
         ({"group": "00"}, f"group has to be {digits}"),
-        ({"public": [*public[:3], "aa"]}, f"public: that of member 3 isn't {digits}"),
-        ({"public": [*public[:3], public[3][:-1]]}, f"public: that of member 3 isn't {digits}"),
+        ({"public": [*public[:3], "aa"]}, handed),
+        ({"public": [*public[:3], public[3][:-1]]}, handed),
         ({"public": [*public[:3], public[1]]}, "members 1 and 3 have one public key"),
         ({"public": [*public[:3], public[1][:64]]}, "members 1 and 3 have one public key"),
         ({"public": [*public[:3], public[3][:64] + public[1][64:]]}, "members 1 and 3 have one key for signatures"),
@@ -233,6 +297,22 @@ def test_a_file_that_is_no_group_is_refused(folder):
     put(folder, "other.json", read(folder, "group.json").replace("{\n", '{"faults": 0,\n', 1))
     twice = "payd group: other.json: an object in it names something twice\n"
     same(tool(folder, "show", "other.json"), (1, "", twice), "a member that stands twice")
+
+
+def test_names_have_letters_of_any_script(folder):
+    """In the file, and in what its keys hang on, for the program too."""
+    group = {**json.loads(read(folder, "group.json")), "names": NAMES_OF_SCRIPTS}
+    put(folder, "named.json", json.dumps(group))
+    lines = does(folder, "show", "named.json").splitlines()
+    wanted = [f"member {own} {it}" for own, it in enumerate(NAMES_OF_SCRIPTS)]
+    same([it.split(":")[0] for it in lines[1:5]], wanted, "who is shown")
+    put(folder, "hosts", "a\nb\nc\nd\n")
+    does(folder, "tunnels", "--as", "ssh", "--hosts", "hosts", "named.json", "0.secret", "tunnels")
+    with open(os.path.join(folder, "tunnels", "payd-tunnel-1.service"), encoding="utf-8") as unit:
+        same(f"ssh to member 1 {NAMES_OF_SCRIPTS[1]}\n" in unit.read(), True, "the unit of a tunnel")
+    write_keys(folder, 1, "named.json")
+    same(json.loads(read(folder, "keys-1")), group_model.keys(group, 1, secret_of(folder, 1)), "the keys")
+    same(desk_of(folder, "named.json"), (0, "front 0 0 0 0\n", ""), "the program by these keys")
 
 
 def test_a_secret_tells_its_public_key_again(folder):
@@ -258,9 +338,33 @@ def test_the_last_opening_stands_for_all_others(folder):
         same(tool(folder, "make", "--faults", "1", "--opening", given, *public)[0], 2, given)
 
 
+def test_numbers_are_digits_alone(folder):
+    """Of the script that the group's file is in, without sign; a refused word says what would do."""
+    public = json.loads(read(folder, "group.json"))["public"]
+    make = ["make", "--faults", "1", "--opening", "7,..", *public]
+    rows = ("1_000", "1000"), ("+5", "5"), ("\u0663", "3"), (" 7", "7"), ("007", "7"), ("1e3", None), ("", None)
+    for given, meant in rows:
+        would = f"write {meant or 'digits, as 1000'}\n"
+        for words, option in (
+            ([*make[:1], "--faults", given, *make[3:]], "--faults"),
+            ([*make[:3], "--opening", f"1,{given},..", *public], "--opening"),
+            ([*make, "--ports", f"1,{given}"], "--ports"),
+            (["tunnels", "--as", "ssh", "--port", given, "group.json", "0.secret", "new"], "--port"),
+        ):
+            status, output, errors = tool(folder, *words)
+            what = "an amount is a whole number from 0" if option == "--opening" else "is no number"
+            told = f"error: argument {option}: {given}{':' * (option == '--opening')} {what}: {would}"
+            same((status, output, errors[-len(told) :]), (2, "", told), f"{words}")
+        status, output, errors = tool(folder, "next", "--leaves", f"{given}:1", "group.json", "export")
+        same((status, errors), (1, f"payd group: {given} is no number: {would}"), f"the member {given}")
+    for option, given, least, most in (("--faults", "129", 0, 128), ("--ports", f"{2**63}", 0, 2**63 - 1)):
+        told = f"argument {option}: {given} won't do: write a number from {least} to {most}\n"
+        same(tool(folder, *make, option, given)[2].endswith(told), True, told)
+
+
 def test_what_the_guide_makes_stays_out_of_the_clone():
     """Its secrets, keys and folders, for what git would take in with all else."""
-    words = re.findall(r"^    .*$", read_text(os.path.join(TOP, "docs", "OPERATING.md")), re.MULTILINE)
+    words = re.findall(r"^    .*$", read_text(os.path.join(TOP, "docs", "guide.md")), re.MULTILINE)
     pattern = r".*\.(secret|tar)|keys.*\.json|member|tunnels"
     made = {it for line in words for it in line.split() if re.fullmatch(pattern, it)}
     wanted = {"me.secret", "keys.json", "keys-2.json", "member", "member.tar", "tunnels"}
@@ -294,18 +398,36 @@ SETTLED = {"members": MEMBERS, "faults": 1, "opening": [100, 0, 0, 50], "front":
 SETTLED.update(lists=[[PAID], [], [], [WAITS]], balances=[70, 30, 0, 50])
 
 
-def put_exports(folder, own):
+def put_exports(folder, own, group):
+    """Exports of these members, each signed by its own."""
     for member in own:
         given = {**SETTLED, "member": member}
         if member == 2:
             given["lists"] = [[PAID], [], [], [WAITS, CLAIM]]
         write_json(folder, f"export-{member}", given)
+        sign(folder, member, group, f"export-{member}")
     return [f"export-{member}" for member in own]
+
+
+def sign(folder, own, group, name):
+    words = [os.path.join(TOP, "tools", "sign"), "--group", group, "--secret", f"{own}.secret", name]
+    same(call(words, folder=folder), (0, "", ""), f"the signature of {name}")
+
+
+# Lines on who signed an export, and on exports of few.
+OF_EXPORTS = re.compile(r" signed it( at [\dT:Z-]+)?$|may lack payments that settled: these are of ")
+
+
+def follows(folder, *words):
+    """Status, output and what else is told."""
+    status, output, errors = tool(folder, *words)
+    lines = errors.splitlines(keepends=True)
+    return status, output, "".join(it for it in lines if not OF_EXPORTS.search(it))
 
 
 def test_the_next_group_opens_with_the_balances_of_the_book(folder):
     group = json.loads(read(folder, "group.json"))
-    status, text, errors = tool(folder, "next", "group.json", *put_exports(folder, (0, 2, 3)))
+    status, text, errors = follows(folder, "next", "group.json", *put_exports(folder, (0, 2, 3), "group.json"))
     told = "not settled, by the old numbers: "
     lines = ["waits account 3 entry 0 seq 0 to 0 amount 60 short 10", "beyond 1 account 3 seq 1 (export-2)"]
     same((status, errors), (0, "".join(f"{told}{line}\n" for line in lines)), "what is told")
@@ -324,9 +446,11 @@ def test_the_next_group_opens_with_the_balances_of_the_book(folder):
 
 def test_a_member_that_leaves_gives_its_balance_to_an_heir(folder):
     named = put_named(folder)
-    exports = put_exports(folder, (0, 1))
-    words = ["--leaves", "0:1", "--faults", "0", "named.json", *exports]
-    status, text, errors = tool(folder, "next", *words)
+    exports = put_exports(folder, (0, 1, 3), "named.json")
+    words = ["--faults", "0", "named.json", *exports]
+    status, text, errors = follows(folder, "next", "--leaves", "0:1", *words)
+    by_name = json.loads(follows(folder, "next", "--leaves", "Ann:Bob", *words)[1])
+    same({**by_name, "group": ""}, {**json.loads(text), "group": ""}, "the same by names")
     after = json.loads(text)
     told = (status, after["members"], after["opening"], after["names"])
     same(told, (0, 3, [100, 0, 50], named["names"][1:]), "who is in the next group")
@@ -355,8 +479,9 @@ def changes(folder):
 
 
 def test_members_join_and_have_other_keys(folder):
-    named, exports, (words, keys) = put_named(folder), put_exports(folder, (0, 1)), changes(folder)
-    status, text, errors = tool(folder, "next", *words, "named.json", *exports)
+    named, (words, keys) = put_named(folder), changes(folder)
+    exports = put_exports(folder, (0, 1, 3), "named.json")
+    status, text, errors = follows(folder, "next", *words, "named.json", *exports)
     after = json.loads(text)
     wanted = {
         "members": 5,
@@ -386,7 +511,7 @@ def test_members_join_and_have_other_keys(folder):
 
 def test_what_is_not_settled_is_told_by_names(folder):
     put_named(folder)
-    _, _, errors = tool(folder, "next", "named.json", *put_exports(folder, (0, 2, 3)))
+    _, _, errors = follows(folder, "next", "named.json", *put_exports(folder, (0, 2, 3), "named.json"))
     told = "not settled, by the old numbers: "
     lines = ["waits account 3 Di entry 0 seq 0 to 0 Ann amount 60 short 10"]
     lines += ["beyond 1 account 3 Di seq 1 (export-2)"]
@@ -396,13 +521,13 @@ def test_what_is_not_settled_is_told_by_names(folder):
 def test_any_member_makes_the_next_group_anew(folder):
     """With the options that were agreed nothing differs; without them, and with another file, each thing is said."""
     put_named(folder)
-    exports, (words, _) = put_exports(folder, (0, 1)), changes(folder)
-    _, text, told = tool(folder, "next", *words, "named.json", *exports)
+    exports, (words, _) = put_exports(folder, (0, 1, 3), "named.json"), changes(folder)
+    _, text, told = follows(folder, "next", *words, "named.json", *exports)
     put(folder, "next.json", text)
     print_of = does(folder, "show", "next.json").splitlines()[-1]
-    made = tool(folder, "check-next", *words, "named.json", "next.json", *exports)
+    made = follows(folder, "check-next", *words, "named.json", "next.json", *exports)
     same(made, (0, f"as the exports have it\n{print_of}\n", told), "with the options")
-    status, lines, _ = tool(folder, "check-next", "named.json", "next.json", *exports)
+    status, lines, _ = follows(folder, "check-next", "named.json", "next.json", *exports)
     wanted = [
         "member 1 Bob isn't in it with its key",
         "member 2 Cy isn't in it with its key",
@@ -415,8 +540,8 @@ def test_any_member_makes_the_next_group_anew(folder):
 
 
 def test_a_next_group_that_is_another_is_told_of(folder):
-    named, exports = put_named(folder), put_exports(folder, (0, 1))
-    _, text, _ = tool(folder, "next", "named.json", *exports)
+    named, exports = put_named(folder), put_exports(folder, (0, 1, 3), "named.json")
+    _, text, _ = follows(folder, "next", "named.json", *exports)
     after = json.loads(text)
     former = after.pop("former")
     for change, wanted in (
@@ -433,7 +558,7 @@ def test_a_next_group_that_is_another_is_told_of(folder):
         ({"former": None}, [f"former is nothing in place of {former}"]),
     ):
         put(folder, "next.json", json.dumps({**after, "former": former, **change}))
-        status, lines, _ = tool(folder, "check-next", "named.json", "next.json", *exports)
+        status, lines, _ = follows(folder, "check-next", "named.json", "next.json", *exports)
         same((status, lines.splitlines()), (1, wanted), f"what is said of {change}")
     put(folder, "next.json", json.dumps({**after, "former": former, "group": named["group"]}))
     why = "payd group: next.json: its `group` is that of named.json, and has to be drawn anew\n"
@@ -441,16 +566,19 @@ def test_a_next_group_that_is_another_is_told_of(folder):
 
 
 def test_no_next_group(folder):
-    exports = put_exports(folder, (0, 1))
+    exports = put_exports(folder, (0, 1, 3), "group.json")
     other = {**json.loads(read(folder, "group.json")), "opening": [101, 0, 0, 50]}
     put(folder, "other.json", json.dumps(other))
     key = does(folder, "new", "new.secret").strip()
-    gone = "cannot read gone: there is no such file or folder"
+    write_json(folder, "bad", {**SETTLED, "member": 2, "lists": 7})
+    sign(folder, 2, "group.json", "bad")
+    bad = "payd: export 2 BadShape in bad: it is no export, or an account's list is too long"
     for words, why in (
-        (["group.json", exports[0]], "these exports have no book: 6 few 1"),
-        (["group.json", exports[0], "gone"], f"these exports have no book: payd: {gone}"),
-        (["group.json", *exports, exports[0]], "these exports have no book: 5 twice 0 2 (export-0, export-0)"),
-        (["other.json", *exports], "these exports are of another group than other.json"),
+        (["--incomplete", "group.json", exports[0]], "these exports have no book: 6 few 1"),
+        (["group.json", exports[0], "gone"], "gone: No such file or directory"),
+        (["group.json", *exports, "bad"], f"these exports have no book: {bad}"),
+        (["group.json", *exports, exports[0]], "these exports have no book: 5 twice 0 3 (export-0, export-0)"),
+        (["other.json", *exports], "export-0: it is no export of this group"),
         (["--leaves", "0:4", "group.json", *exports], "there is no member 4"),
         (["--rekeys", f"4:{key}", "group.json", *exports], "there is no member 4"),
         (
@@ -464,12 +592,13 @@ def test_no_next_group(folder):
         ),
         (["--leaves", "0:1", "group.json", *exports], "faults has to be fewer than a third of the members: 0 at most"),
         (["--joins", other["public"][1], "group.json", *exports], "members 1 and 4 have one public key"),
-        (["--joins", f"{key}:{2**63}", "group.json", *exports], "opening: that of member 4 isn't a balance"),
+        (["--leaves", "Ann:1", "group.json", *exports], "Ann is no number: write digits, as 1000"),
         (["--joins", f"{key}:Eve", "group.json", *exports], "a newcomer has what the group hasn't: names"),
         (["--joins", f"{key}@e", "group.json", *exports], "a newcomer has what the group hasn't: hosts"),
     ):
-        same(tool(folder, "next", *words), (1, "", f"payd group: {why}\n"), f"{words}")
-    same(tool(folder, "next", "--joins", f"{key}:Eve:5:6", "group.json", *exports)[0], 2, "too many parts")
+        same(follows(folder, "next", *words), (1, "", f"payd group: {why}\n"), f"{words}")
+    for more in ("Eve:5:6", f"{2**64}", "1_000"):
+        same(tool(folder, "next", "--joins", f"{key}:{more}", "group.json", *exports)[0], 2, more)
 
 
 # ---- nodes
@@ -591,7 +720,12 @@ class Recorded(Server):
         self.text, self.left = text, 0
 
     def serve(self, stream):
+        """Whose a challenge is gets no claim, and then dials without one."""
         with contextlib.suppress(OSError):
+            first = received(stream)
+            if first and is_challenge(HEAD.unpack_from(first)[5]):
+                stream.recv(1)
+                return
             stream.sendall(self.text)
             while stream.recv(65536):
                 pass

@@ -5,13 +5,13 @@ Where there is no C compiler to make the library that refuses, these tests fail.
 
 import os
 
-import audits
-import desks
-from frames import SEND, frame
-from hostile import MEMORY, MOST_READS, MOST_TRIES
-from nodes import write_json, write_member
-from runs import EXAMPLE_GENESIS, GENESIS, TOP, example_keys, read_bytes, run, same
-from scripts import WORKED, script_of
+from models import audits, desks
+from models.scripts import WORKED, script_of
+from payd_tools.frames import SEND, frame
+from support.hostile import MEMORY, MOST_READS, MOST_TRIES
+from support.nodes import write_json, write_member
+from support.runs import EXAMPLE_GENESIS, GENESIS, TOP, example_keys, read_bytes, run, same
+
 
 def streams():
     """Words of a command and its input."""
@@ -38,13 +38,14 @@ def test_each_growth_refused(library):
 
 
 def test_each_growth_of_an_audit_refused(library):
-    for place, (_, exports, line) in enumerate(audits.ROWS[:8]):
+    """The first row of each verdict."""
+    for place, (_, exports, line) in enumerate({row[-1][0]: row for row in reversed(audits.ROWS)}.values()):
         names = []
         for number, export in enumerate(exports):
             names.append(f"{place}-{number}.json")
             write_json(library.place.name, names[-1], export)
         status, all_lines = 0 if line == "clean" else 1, audits.findings(list(zip(names, exports)))
-        for words, lines in ((["--jobs", "1"], [line]), (["--all"], all_lines)):
+        for words, lines in (([], [line]), (["--all"], all_lines)):
             ample = (status, "".join(f"{it}\n" for it in lines), "")
             for growth, was in library.each(["audit", *words, *names], b"", "growth"):
                 refused = was[:2] == (3, "") and MEMORY.fullmatch(was[2]) is not None
@@ -74,40 +75,6 @@ def test_each_growth_of_a_desk_refused(library):
     same(refusals > 10, True, f"{refusals} lines were refused memory")
 
 
-def test_each_growth_of_a_node_refused(library):
-    """A node without peers, whose threads grow in any order: nothing but its answers, its export, and Memory."""
-    words = write_member(library.place.name)
-    lines = ["PAY 7 1 30", "PAY 7 1 30", "FRONT"]
-    stream = "".join(f"{line}\n" for line in lines).encode()
-    ample = library.run(words, stream)[0]
-    same(ample[0], 0, f"{ample}")
-    unjudged = 0
-    for place in range(1, 400):
-        (status, text, errors), was_refused = library.run(words, stream, growth=place)
-        if not was_refused:
-            same(unjudged > 0, True, "no growth of the close was refused")
-            return
-        library.refused["node growth"] += 1
-        of = f"growth {place}: {status} {text} {errors}"
-        if errors == "payd: close 0 Memory\n":
-            # (what was answered isn't judged, and the export is written all the same)
-            unjudged += 1
-            same((status, text), (3, ample[1]), of)
-        elif status == 0:
-            *answers, export = text.splitlines()
-            same(len(answers), len(lines), of)
-            for answer, wanted in zip(answers, ample[1].splitlines()):
-                same(answer in (wanted, "refused 0 Memory"), True, of)
-            paid = "asked 7 seq 0" in answers
-            same((export.startswith("{"), errors), (True, ""), of)
-            same(answers[0] == "refused 0 Memory" or paid, True, of)
-        else:
-            # (only on the way: a node that has answered all its lines writes its export without memory)
-            same((status, MEMORY.fullmatch(errors) is not None), (3, True), of)
-            same(len(text.splitlines()) < len(lines), True, of)
-    raise AssertionError("no end of growths")
-
-
 def each_fails(library, call, fault, **more):
     """Each of a run's calls fails, which ends it with this fault behind what was written before."""
     for words, stream in streams():
@@ -134,6 +101,23 @@ def test_an_interrupted_read_is_tried_again(library):
 def test_each_write_fails_or_takes_nothing(library):
     for more in ({}, {"write_takes_nothing": 1}, {"write_size": 30}):
         each_fails(library, "write", "3 Write", **more)
+
+
+ALONE = {"members": 1, "faults": 0, "opening": [7]}
+EXPORT = '{"balances":[7],"faults":0,"front":[0],"lists":[[]],"member":0,"members":1,"opening":[7]}\n'
+
+
+def test_each_write_of_an_export_fails(library):
+    """What was written is a prefix of the export, whichever write fails or takes nothing."""
+    words = write_member(library.place.name, genesis=ALONE)
+    same(library.run(words, b"")[0], (0, EXPORT, ""), "each write taken")
+    for more in ({}, {"write_takes_nothing": 1}, {"write_size": 30}, {"write_size": 1}):
+        lengths = []
+        for place, (status, text, errors) in library.each(words, b"", "write", **more):
+            same((status, errors), (3, "payd: engine 3 Write\n"), f"write {place} {more}")
+            same(EXPORT.startswith(text), True, f"write {place} {more}: {text!r} is no prefix")
+            lengths.append(len(text))
+        same(lengths, sorted(set(lengths)), f"{more}: a write more lets more through")
 
 
 def test_a_byte_at_a_time(library):

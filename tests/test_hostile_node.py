@@ -9,12 +9,12 @@ run, from the first to the last, doesn't.
 import json
 import time
 
-import audits
-from many_peers import Crowd
-from frames import payment
-from hostile import MEMORY
-from nodes import PATIENCE, Ended, Node, audited, compact, free_ports, write_json
-from runs import GENESIS, key_texts, same
+from models import audits
+from payd_tools.frames import payment
+from support.hostile import MEMORY
+from support.many_peers import Crowd
+from support.nodes import PATIENCE, Ended, Node, audited, compact, free_ports, write_json
+from support.runs import GENESIS, key_texts, same
 
 OWN, PEERS = 0, (1, 2)
 PAID, PAID_BACK = payment(payee=1, amount=30), payment(payee=0, amount=10)

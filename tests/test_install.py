@@ -12,13 +12,14 @@ import tempfile
 import urllib.parse
 import urllib.request
 
-from nodes import export_text, started, write_json, write_member
 import pytest
-from runs import SECONDS, TOP, call, payd, read_text, same, write_text
 
-COMMANDS = "check", "sim", "desk", "node", "send", "export", "audit", "book", "statement", "journal"
-TOOLS = "pay", "status", "follow", "desk-page", "move-out", "group", "sign", "audit-signed", "evidence", "books"
-TOOLS += "report", "draw"
+from support.nodes import export_text, started, write_json, write_member
+from support.runs import SECONDS, TOP, call, payd, read_text, same, write_text
+
+COMMANDS = "check", "sim", "desk", "node", "export", "audit", "book", "statement", "journal"
+TOOLS = "send", "pay", "status", "follow", "desk-page", "move-out", "group", "sign", "audit-signed", "evidence"
+TOOLS += "books", "report", "draw"
 LICENCES = "LICENSE-APACHE", "LICENSE-MIT"
 ALONE = {"members": 1, "faults": 0, "opening": [7]}
 
@@ -32,9 +33,9 @@ def installer():
     """The script in a repository that holds the program to be proved, which the one that runs here may not be."""
     for name in ("HANDLES", "CHANGELOG.md", "README.md", *LICENCES, "crates", "crates.txt", "payd", "payd-prove"):
         os.symlink(os.path.join(TOP, name), os.path.join(KEPT.name, name))
-    for name in ("docs", "examples", "tests/models", "tools"):
-        shutil.copytree(os.path.join(TOP, name), os.path.join(KEPT.name, name))
-    holds = f"import building as it; it.keep(it.PROVED, it.sums().whole, {payd()!r})"
+    for name in ("docs", "examples", "tools"):
+        shutil.copytree(os.path.join(TOP, name), os.path.join(KEPT.name, name), symlinks=True)
+    holds = f"from payd_tools.repository import building as it; it.keep(it.PROVED, it.sums().whole, {payd()!r})"
     subprocess.run([sys.executable, "-c", holds], cwd=os.path.join(KEPT.name, "tools"), check=True)
     return os.path.join(KEPT.name, "tools", "install")
 
@@ -64,7 +65,7 @@ def test_installed_program_stands_alone(folder):
     same(call(words, folder=folder), (0, export, ""), "its export")
     unit = os.path.join(folder, "prefix", "lib", "systemd", "system", "payd@.service")
     same(f'\nExecStart="{payd}" node ' in read_text(unit), True, "the program of its service")
-    for page in ("README.md", "CHANGELOG.md", *LICENCES, "docs/OPERATING.md", "examples/shop"):
+    for page in ("README.md", "CHANGELOG.md", *LICENCES, "docs/guide.md", "examples/shop"):
         same(os.path.isfile(os.path.join(folder, "prefix", "share", "doc", "payd", page)), True, page)
 
 
@@ -172,7 +173,8 @@ def test_manual_and_completions(folder):
     for command in (*COMMANDS, *(it.replace("-", "\\-") for it in TOOLS)):
         same(text.count(f".SH {command.upper()}\n"), 1, f"the manual page on {command}")
     text = read_text(os.path.join(prefix, "share", "man", "man5", "payd.5"))
-    for said in (".SH FOLDERS\n", ".SH A MEMBER'S LOG\n", "the keys' fingerprint", "\\fB3 BadGenesis\\fR"):
+    heads = ".SH THE FOLDER OF A MEMBER\n", ".SH A MEMBER'S LOG\n", ".SH FAULTS OF A LOG\n"
+    for said in (*heads, "the keys' fingerprint", "\\fB3 BadGenesis\\fR"):
         same(said in text, True, f"the manual page on files has {said!r}")
     script = os.path.join(prefix, "share", "bash-completion", "completions", "payd")
     write_json(folder, "my keys.json", {})
@@ -183,8 +185,8 @@ def test_manual_and_completions(folder):
         ("node --keys none", [""]),
         ("audit ''", ["my keys.json"]),
         ("journal m", ["my keys.json"]),
-        ("audit -", ["--all", "--jobs"]),
-        ("send --s", ["--socket"]),
+        ("audit -", ["--all"]),
+        ("send --so", ["--socket"]),
         ("send --data m", ["my keys.json"]),
         ("node --so", ["--socket"]),
         ("se", ["send"]),
@@ -211,7 +213,7 @@ def test_completions_for_each_shell():
     """Each is there, and has all commands and the options of a node."""
     for shell, place in COMPLETIONS.items():
         words = set(re.findall(r"[a-z]+", read_text(os.path.join(installed(), place))))
-        options = "genesis keys ports dials ahead data stay socket jobs all date".split()
+        options = "genesis keys ports dials ahead data stay socket all date".split()
         tools = {part for it in TOOLS for part in it.split("-")}
         same({*COMMANDS, *tools, *options} - words, set(), f"words that the completions for {shell} lack")
 

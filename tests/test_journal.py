@@ -9,11 +9,12 @@ import shutil
 import subprocess
 import tempfile
 
-import audits
-from audits import FRESH, PAID, TWO_ENTRIES, WORKED, changed, journal
-from frames import payment
 import pytest
-from runs import SECONDS, TOP, run, same, shows, with_files, write_text
+
+from models import audits
+from models.audits import FRESH, PAID, TWO_ENTRIES, WORKED, journal
+from payd_tools.frames import payment
+from support.runs import SECONDS, TOP, run, same, shows, with_files, write_text
 
 DAY = "2026-01-31"
 
@@ -62,13 +63,6 @@ def test_random_journals_as_the_model_has_them():
     for turn in range(60):
         for given in audits.random_exports(seeded):
             shows(journal_of(given, "--date", DAY), 0, journal(given, DAY), of=f"turn {turn}, {given}")
-
-
-def test_journals_rest_on_lists_alone():
-    """A front and balances that an audit names make no difference."""
-    text = journal(PAID, DAY)
-    for members in ({"front": [0, 0, 0, 0]}, {"front": 4 * [2**64 - 1]}, {"balances": 4 * [2**64 - 1]}, {"member": 2}):
-        shows(journal_of(changed(members), "--date", DAY), 0, text, of=f"{members}")
 
 
 def test_dates_of_journals():

@@ -8,13 +8,13 @@ import re
 import subprocess
 
 import pytest
-from hostile import MOST_CALLS
-from runs import SECONDS, TOP, in_gate, same
+
+from support.hostile import MOST_CALLS
+from support.runs import SECONDS, TOP, in_gate, same
 
 TESTS = "pay_library_tests"
 CALLS = (
     "members::members_answer_and_export",
-    "replays::histories_are_replayed",
     "runs::events_are_run",
     "streams::frames_cut_anywhere",
 )

@@ -3,13 +3,14 @@
 import json
 import os
 import random
+import time
 
-import logs
-from frames import ECHO, READY, SEND, frame, payment, read_frame
-from nodes import free_ports, until, write_json
-from peers import Cuts, Liar
-from restarts import Folders
-from runs import TOP, call, same
+from payd_tools import logs
+from payd_tools.frames import ECHO, READY, SEND, frame, payment, read_frame
+from support.nodes import free_ports, until, write_json
+from support.peers import Cuts, Liar
+from support.restarts import Folders
+from support.runs import TOP, call, same
 from test_figures import shown
 
 OPENING = [100, 0, 0, 50]
@@ -54,7 +55,7 @@ def taken(group, own):
     """The bodies that a node took of member 3, by its log, which has all that came before an answer."""
     group.nodes[own].front()
     records = logs.Log(group.genesis(), own).records(group.log(own))
-    found = [read_frame(what) for kind, _, what, *_ in records if kind in logs.FRAMES]
+    found = [read_frame(what) for kind, _, what, *_ in records if kind == logs.FRAME]
     return [it[4] for it in found if it[1] == 3]
 
 
@@ -101,6 +102,20 @@ def judge_liar(stories, count, lie, shows, settled):
         for own, node in group.nodes.items():
             same((taken(group, own), node.lies()), (bodies, [(3, lie)]), f"what {own} took and said in the end")
         same(liar.dials, dials, "how often the liar was dialed")
+        group.stop()
+
+
+def test_a_lie_is_told_with_the_frame_that_shows_it():
+    """Nothing comes from the peer after its second READY, and its connection stays."""
+    stories = {own: [[(READY, 1, 9, A), (READY, 1, 9, B)]] for own in range(3)}
+    with Folders(OPENING, running=[0, 1, 2]) as group, Liar(3, group.ports[3], stories) as liar:
+        group.liars = (3,)
+        until(liar.all_taken, True, of="whether all took the lie")
+        begun = time.monotonic()
+        for own, node in group.nodes.items():
+            until(node.lies, [(3, "a second READY about value 9 of account 1")], of=f"the lies that {own} was told")
+        seconds = time.monotonic() - begun
+        same(seconds < 20, True, f"the lie was told after {seconds:.0f} s")
         group.stop()
 
 

@@ -1,73 +1,78 @@
-"""Black-box tests of runs that are refused memory."""
+"""Black-box tests of how much memory runs take, and of a node to which it stays refused."""
 
 import contextlib
-import json
 import os
+import subprocess
+import sys
 import tempfile
 import time
 
-from frames import SEND, frame
-from model import play
-from nodes import PATIENCE, Group, Node
-from peers import Server
-from runs import EXAMPLE_GENESIS, GENESIS, PIECE, example_keys, is_refused, run_within, same
+from payd_tools.frames import SEND, frame
+from support.nodes import PATIENCE, Group, Node, write_json
+from support.peers import Claimants, Server
+from support.runs import GENESIS, SECONDS, payd, same
 
-# More memory, and more again.
-LIMITS = [PIECE * k * k for k in range(25)]
-
-
-def least_memory():
-    """What the program needs to be loaded and to answer an empty stream, with no room for large reads."""
-    words = ["check", "--jobs", "1"]
-    return next(it for it in range(PIECE, 1 << 30, PIECE) if run_within(it, words) == (0, "", ""))
-
-
-def writes_a_beginning(wanted, words, stream=b""):
-    """With enough memory a run writes this text, and with too little a prefix of it."""
-    least, refused = least_memory(), []
-    for memory in (least + more for more in LIMITS):
-        status, text, errors = run_within(memory, words, stream)
-        refused.append(is_refused(status, errors))
-        if refused[-1]:
-            same(wanted.startswith(text), True, f"{words} within {memory}: a prefix")
-        else:
-            same((status, text, errors), (0, wanted, ""), f"{words} within {memory}")
-    same((refused[0], refused[-1]), (True, False), f"{words}: refused with the least, and not with the most")
-
-
-def test_refused_memory_leaves_a_beginning_of_a_script():
-    world = json.dumps({**GENESIS, "liars": []})
-    lines = [world, *(20 * ["ask 0 1 1", "ask 3 0 1", "all", "show"])]
-    script = "".join(f"{line}\n" for line in lines).encode()
-    writes_a_beginning(play(script)[0], ["sim"], script)
+# Of each kind of file how it goes on, so that it has more and more parts, and whether it is read.
+PARTS = {
+    "objects": ('{"a":1},', False),
+    "objects of one list": ('{"":[]},', False),
+    "lists of one number": ("[0],", False),
+    "empty lists": ("[],", False),
+    "numbers": ("0,", False),
+    "numbers of twenty digits": ("18446744073709551615,", True),
+    "empty texts": ('"",', True),
+    "texts of a byte": ('"ff",', True),
+    "texts of a payment": ('"0100010000000000000001",', True),
+}
+# What a file takes at most, by its size, and what the program takes of its own, and whoever starts it before that.
+MOST_TIMES, OWN = 16, 16 << 20
+# Runs a program, and prints its status and how much memory it had at most: as much as whoever started it, at least.
+MEASURE = """import os, sys
+to_nobody = os.POSIX_SPAWN_OPEN, 1, os.devnull, os.O_WRONLY, 0
+child = os.posix_spawn(sys.argv[1], sys.argv[1:], {}, file_actions=[to_nobody])
+_, status, used = os.wait4(child, 0)
+print(status >> 8, used.ru_maxrss * 1024)
+"""
 
 
-def test_refused_memory_leaves_no_verdict():
-    # a member alone, whose 20,000 values are no payments
-    export = {"members": 1, "faults": 0, "opening": [7], "member": 0, "front": [20_000], "balances": [7]}
+def peak(words):
+    """Status and errors of a run of the program, and how many bytes of memory it had at most."""
+    measured = [sys.executable, "-S", "-E", "-c", MEASURE, payd(), *words]
+    done = subprocess.run(measured, capture_output=True, text=True, timeout=SECONDS, check=True)
+    status, most = done.stdout.split()
+    return int(status), done.stderr, int(most)
+
+
+def test_a_file_takes_no_more_memory_than_16_times_its_size():
+    """Whatever JSON it is: else it is refused before any of it is read."""
     with tempfile.TemporaryDirectory() as folder:
-        names = [os.path.join(folder, f"{place}.json") for place in range(2)]
-        for name in names:
-            with open(name, "w", encoding="ascii") as file:
-                json.dump({**export, "lists": [20_000 * ["ff"]]}, file)
-        writes_a_beginning("clean\n", ["audit", "--jobs", "1", *names])
+        path = os.path.join(folder, "file")
+        for kind, (part, is_read) in PARTS.items():
+            text = f"[{part * ((6 << 20) // len(part))}0]"
+            with open(path, "w", encoding="ascii") as file:
+                file.write(text)
+            for words in (["audit", path], ["check", "--genesis", path]):
+                status, errors, most = peak(words)
+                refused = f"payd: file {path}: it has so many parts that they would take more than 16 times its size\n"
+                same((status, errors == refused), (2, not is_read), f"{words[0]} of {kind}: {errors}")
+                times = MOST_TIMES if is_read else 2
+                same((most <= times * len(text) + OWN, most), (True, most), f"what {words[0]} takes of {kind}")
 
 
-def test_refused_memory_loses_no_payment():
-    lines = [f"PAY {place} 1 1" for place in range(20_000)]
-    stream = "".join(f"{line}\n" for line in lines).encode()
-    words = ["desk", "--genesis", EXAMPLE_GENESIS, "--keys", example_keys(0)]
-    least, refusals = least_memory(), 0
-    for memory in (least + more for more in LIMITS):
-        status, text, errors = run_within(memory, words, stream)
-        answers = text.splitlines()
-        asked = [(place, it) for place, it in enumerate(answers) if it != "refused 0 Memory"]
-        numbered = [(place, f"asked {place} seq {seq}") for seq, (place, _) in enumerate(asked)]
-        same(asked, numbered, f"within {memory}")
-        refusals += len(answers) - len(asked)
-        if not is_refused(status, errors):
-            same((status, len(answers), errors), (0, len(lines), ""), f"within {memory}")
-    same((refusals > 0, len(asked)), (True, len(lines)), "some refused, and none with the most")
+def test_what_liars_fill_their_lists_with_keeps_no_export_from_an_audit():
+    """As many values as they have numbers, each of no bytes or of one, which each correct member's export lists."""
+    members, liars = 128, 42
+    parts = {"members": members, "faults": liars, "opening": members * [1], "member": 127}
+    for value in ("", "ff"):
+        lists = [65_536 * [value] for _ in range(liars)] + [[] for _ in range(members - liars)]
+        front = [65_536] * liars + [0] * (members - liars)
+        with tempfile.TemporaryDirectory() as folder:
+            write_json(folder, "export", {**parts, "lists": lists, "front": front, "balances": members * [1]})
+            path = os.path.join(folder, "export")
+            status, errors, most = peak(["audit", path])
+            same((status, errors), (0, ""), f"an audit of values {value!r}")
+            size = os.path.getsize(path)
+            same((most <= MOST_TIMES * size + OWN, most // size), (True, most // size), f"what values {value!r} take")
 
 
 class Filling(Server):
@@ -98,7 +103,7 @@ def limited(group, limit):
 def test_memory_that_stays_refused_ends_a_node():
     """It can take nothing more, perhaps not even dial anew: it says so, and ends by itself."""
     limit = ["sh", "-c", 'ulimit -v 220000 && exec "$@"', "sh"]
-    with Group(GENESIS["opening"], running=[]) as group, Filling(1, group.ports[1]):
+    with Group(GENESIS["opening"], running=[]) as group, Filling(1, group.ports[1]), Claimants(group.ports, [2, 3]):
         begun = time.monotonic()
         group.nodes[0] = node = limited(group, limit)
         status, output, errors = node.end()

@@ -4,10 +4,8 @@ import collections
 import os
 import re
 
-from runs import TOP, same
-
-from inventory import files_below, read_crates, read_file
-
+from payd_tools.repository.inventory import files_below, read_crates, read_file
+from support.runs import TOP, same
 
 # Definitions that several crates have under one name, each with the same sense.
 SAME_IN_SEVERAL = {

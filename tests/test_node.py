@@ -7,14 +7,15 @@ import socket
 import subprocess
 import tempfile
 
-import desks
-from advices import told_plainly
-from frames import ECHO, READY, SEND, WANT, frame, payment
-from model import Member
-from nodes import PATIENCE, Group, compact, export_text, free_ports, in_memory, until, write_json
-from peers import Cuts, Hostile, Liar, Strangers, connected, received
-from runs import GENESIS, SECONDS, TOP, UNWRITTEN, payd
-from runs import heard, key_texts, of_file, run_to_nobody, same, shows, with_files
+from models import desks
+from payd_tools.frames import ECHO, READY, SEND, WANT, frame, payment
+from payd_tools.model import Member
+from support.advices import told_plainly
+from support.nodes import PATIENCE, Group, export_text, free_ports, in_memory, until, write_json
+from support.peers import Hostile, Liar, Strangers, connected, received
+from support.runs import (
+    GENESIS, SECONDS, TOP, UNWRITTEN, payd, heard, key_texts, of_file, run_to_nobody, same, shows, with_files,
+)
 
 OPENING = GENESIS["opening"]
 A, B = payment(payee=0, amount=5), payment(payee=1, amount=5)
@@ -26,17 +27,6 @@ MOST_CONNECTIONS = 256
 OTHER_THREADS = 10
 
 # ---- a group
-
-
-def test_four_nodes_settle_the_same():
-    with Group(OPENING) as group:
-        group.pay_twice()
-        same(group.nodes[2].ask("STATE 0 0"), "state 0 0 settled", "a payment")
-        same(group.nodes[2].ask("STATE 1 0"), "state 1 0 unknown", "one that isn't there")
-        exports = group.stop()
-    lists = [[payment(1, 30).hex()], [], [], [payment(0, 20).hex()]]
-    for own, export in exports.items():
-        same(f"{compact(export)}\n", export_text(own, OPENING, lists, [1, 0, 0, 1], [90, 30, 0, 30]), f"node {own}")
 
 
 def test_a_desk_that_is_polled_keeps_no_more():
@@ -52,22 +42,6 @@ def test_a_desk_that_is_polled_keeps_no_more():
                 same(polled, there, "what is polled")
             kept.append(node.status("VmRSS"))
         same(kept[1] - kept[0] < 500, True, f"{kept[0]} kibibytes, and {kept[1]} behind 9,000 polls more")
-        group.stop()
-
-
-def test_payments_wait_for_each_other():
-    with Group([0, 0, 0, 50]) as group:
-        group.pay(0, 1, payee=1, amount=10, seq=0)
-        group.pay(1, 1, payee=0, amount=10, seq=0)
-        for own, node in group.nodes.items():
-            for owner in (0, 1):
-                until(lambda: node.ask(f"STATE {owner} 0"), f"state {owner} 0 waiting", of=f"node {own}")
-            same((node.front(), node.balances()), ([0, 0, 0, 0], [0, 0, 0, 50]), f"what node {own} has settled")
-        group.pay(3, 1, payee=0, amount=10, seq=0)
-        group.settle([1, 1, 0, 1], [10, 0, 0, 40])
-        wanted = ["out 0 to 1 10", "in 1 0 10", "in 3 0 10", "end 0 balance 10"]
-        for own, node in group.nodes.items():
-            same(node.statement(0), wanted, f"the statement at {own}")
         group.stop()
 
 
@@ -130,12 +104,6 @@ def test_desk_of_a_node_without_peers():
     wanted = "".join(f"{answer}\n" for answer in answers) + export_text(0, OPENING, FRESH, [0, 0, 0, 0], OPENING)
     for given in (text, text[:-1]):
         shows(node_alone(given.encode()), 0, wanted)
-
-
-def test_lines_that_are_no_command_of_a_node():
-    text = "".join(f"{line}\n" for line in desks.BAD_LINES).encode() + 129 * b"x" + b"\n" + 100000 * b"9" + b"\nFRONT"
-    answers = (len(desks.BAD_LINES) + 2) * f"{desks.BAD_LINE}\n" + "front 0 0 0 0\n"
-    shows(node_alone(text), 0, answers + export_text(0, OPENING, FRESH, [0, 0, 0, 0], OPENING))
 
 
 def node_alone(text, own=0, genesis=GENESIS, ports=None):
@@ -285,20 +253,6 @@ def test_only_the_loopback_is_listened_on():
         group.stop()
 
 
-def test_words_of_a_node_and_a_desk():
-    files = {"g": GENESIS, "k": KEYS, "p": {"ports": free_ports(4)}}
-    for command, options in (("node", [NODE[1:3], NODE[3:5], NODE[5:7]]), ("desk", [NODE[1:3], NODE[3:5]])):
-        for words in (sum(options, []), sum(options[::-1], []), ["=".join(it) for it in options]):
-            status, output, errors = with_files(files, [command, *words], b"FRONT\n")
-            errors = in_memory((status, output, errors))[2] if command == "node" else errors
-            same((status, output.split("{")[0], errors), (0, "front 0 0 0 0\n", ""), f"{command} {words}")
-        wrong = [[], *(sum(options[:at] + options[at + 1 :], []) for at in range(len(options)))]
-        wrong += [sum(options, more) for more in (options[-1], ["x"])] + [[*sum(options[:-1], []), options[-1][0]]]
-        for words in wrong:
-            status, output, errors = with_files(files, [command, *words], b"FRONT\n")
-            same((status, output, errors != ""), (2, "", True), f"{command} {words}")
-
-
 # ---- members that are away or come late
 
 
@@ -336,30 +290,6 @@ def test_a_member_that_comes_late_catches_up():
         group.start(2)
         group.settle([1, 1, 0, 1], [90, 0, 30, 30])
         group.stop()
-
-
-def test_connections_that_break_anywhere():
-    """Whatever two nodes say to each other goes through a third party, which cuts each connection sooner or later."""
-    each = 40
-    ports = free_ports(20)
-    listening = ports[:4]
-    with Group(4 * [each], running=[], ports=listening) as group:
-        routes = {}
-        for own in range(4):
-            through = ports[4 * own + 4 : 4 * own + 8]
-            routes.update({port: listening[peer] for peer, port in enumerate(through) if peer != own})
-            through[own] = listening[own]
-            write_json(group.place.name, f"ports-{own}", {"ports": through})
-        with Cuts(random.Random(5), routes) as cuts:
-            for own in range(4):
-                group.start(own, f"ports-{own}")
-            for order in range(each):
-                for own in range(4):
-                    group.pay(own, order, payee=(own + 1) % 4, amount=1, seq=order)
-            group.settle(4 * [each], 4 * [each])
-            exports = group.stop()
-            same(cuts.count >= 48, True, f"{cuts.count} connections were cut")
-    same([export["front"] for export in exports.values()], 4 * [4 * [each]], "fronts")
 
 
 # ---- hostile peers

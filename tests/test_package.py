@@ -8,9 +8,11 @@ import shutil
 import subprocess
 import tempfile
 
-from nodes import free_ports, write_json
 import pytest
-from runs import SECONDS, TOP, call, key_texts, read_text, same, write_text
+
+from support.nodes import free_ports, write_json
+from support.runs import SECONDS, TOP, call, key_texts, read_text, same, write_text
+from test_group import does
 
 TOOL = os.path.join(TOP, "tools", "package")
 MEMBERS = "ada", "bob"
@@ -26,15 +28,16 @@ def packed(folder):
 
 @pytest.mark.needs("dpkg-deb")
 def test_package_is_made_of_all_that_is_installed(folder):
-    """With the words of the unproved program; made twice it is the same to the byte."""
-    deb = packed(folder)
+    """With the words of the unproved program, in a folder that it makes; made twice it is the same to the byte."""
+    made = os.path.join(folder, "packages")
+    deb = packed(made)
     with open(deb, "rb") as first:
         was = first.read()
-    with open(packed(folder), "rb") as second:
+    with open(packed(made), "rb") as second:
         same(second.read() == was, True, "the package made once more")
     same(os.path.basename(deb), "payd_0.1.0~unproved_amd64.deb", "its name")
     fields = call(["dpkg-deb", "--field", deb])[1]
-    same(("~unproved\n" in fields, "\n Not proved" in fields or "\n For tests" in fields), (True, True), fields)
+    same(("~unproved\n" in fields, "\n UNVERIFIED" in fields or "\n For tests" in fields), (True, True), fields)
     subprocess.run(["dpkg-deb", "--extract", deb, os.path.join(folder, "root")], check=True, timeout=SECONDS)
     for place in ("bin/payd", "lib/systemd/system/payd@.service", "lib/sysusers.d/payd.conf", "libexec/payd/pay",
                   "lib/tmpfiles.d/payd.conf", "share/man/man1/payd.1.gz", "share/man/man5/payd.5.gz",
@@ -103,6 +106,24 @@ ls -d /usr/lib/payd /usr/libexec/payd 2>/dev/null || echo none left
 """
 
 
+# What stands there for what needs a network, and for a manager of services, which runs a service's command as its user.
+SHIMS = """set -e
+apt() { dpkg --no-triggers -i "$2" >/dev/null; }
+systemctl() { (. /given/service) </dev/null >"/given/${3#payd@}.said" 2>&1 & }
+"""
+SERVICE = """name=${3#payd@}
+cd "/var/lib/payd/$name"
+exec setpriv --reuid payd --regid payd --init-groups -- {command}
+"""
+
+
+def words_of_guide():
+    """The commands of docs/guide.md that lead from the package to the first payment."""
+    text = read_text(os.path.join(TOP, "docs", "guide.md"))
+    [block] = re.findall(r"\nFrom the package to the first payment .*\n\n((?:    .*\n)+)", text)
+    return [line.strip() for line in block.splitlines()]
+
+
 def refusal():
     """Why no such root can be made here, or None."""
     with tempfile.TemporaryDirectory() as folder, tempfile.TemporaryDirectory() as given:
@@ -117,6 +138,37 @@ def entered(folder, given):
         return call(words)
     except FileNotFoundError as error:
         return 1, "", str(error)
+
+
+def test_the_words_of_the_guide_lead_from_the_package_to_a_payment(folder):
+    """As they stand there, for ada; and for bob, who is paid, those up to the payment. The owner agrees by a word in
+    place of a terminal."""
+    if (why := refusal()) is not None:
+        pytest.skip(why)
+    given = os.path.join(folder, "given")
+    os.mkdir(given)
+    deb = packed(given)
+    lines = [does(folder, "new", "--name", it, f"{it}.secret").strip() for it in MEMBERS]
+    words = ["--faults", "0", "--opening", "100,0", "--ports", ",".join(map(str, free_ports(2)))]
+    write_text(os.path.join(folder, "group.json"), does(folder, "make", *words, *lines))
+    for name in MEMBERS:
+        os.mkdir(os.path.join(given, name))
+        shutil.copy(os.path.join(folder, "group.json"), os.path.join(given, name))
+        does(folder, "keys", "group.json", f"{name}.secret", os.path.join(given, name, "keys.json"))
+        os.link(deb, os.path.join(given, name, os.path.basename(deb)))
+    raw = os.path.join(folder, "raw")
+    subprocess.run(["dpkg-deb", "--raw-extract", deb, raw], check=True, timeout=SECONDS)
+    unit = read_text(os.path.join(raw, "usr", "lib", "systemd", "system", "payd@.service"))
+    [command] = re.findall("^ExecStart=(.*)$", unit, re.MULTILINE)
+    write_text(os.path.join(given, "service"), SERVICE.replace("{command}", command))
+    *until_then, payment = words_of_guide()
+    script = [SHIMS, "cd /given/bob", *(it.replace("ada", "bob") for it in until_then)]
+    script += ["cd /given/ada", *until_then, payment.replace("payd pay ", "payd pay --yes ")]
+    script += ["runuser -u payd -- payd send --data /var/lib/payd/bob/member 'BALANCE 1'"]
+    write_text(os.path.join(given, "script"), "\n".join(f"{it}" for it in script))
+    with tempfile.TemporaryDirectory() as place:
+        status, output, errors = entered(place, given)
+    same((status, output.splitlines()[-1:], "settled" in output), (0, ["balance 1 30"], True), f"{output}{errors}")
 
 
 def test_package_runs_members_through_upgrade_and_removal(folder):

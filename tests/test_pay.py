@@ -1,5 +1,6 @@
 """Black-box tests of payd pay, payd status and payd follow, with nodes that run."""
 
+import contextlib
 import datetime
 import fcntl
 import json
@@ -12,14 +13,14 @@ import socket
 import subprocess
 import termios
 import threading
+import time
 
-from clients import Client
-from nodes import PATIENCE, Node, until, write_json
-from payers import PAY, pay, payments_are_killed
-from restarts import Folders
-from runs import SECONDS, TOP, call, payd, same, shows
-
-from times import TimesFile, text_of, times_path
+from payd_tools.times import TimesFile, text_of, times_path
+from support.clients import Client
+from support.nodes import PATIENCE, Node, until, write_json
+from support.payers import PAY, pay, payments_are_killed
+from support.restarts import Folders
+from support.runs import SECONDS, TOP, call, payd, same, shows, write_text
 
 OPENING = [100, 0, 0, 50]
 NAMES = ["Ada", "Bo", "Cy", "2"]
@@ -75,8 +76,9 @@ def test_payment_with_a_note():
         same(pay(folder, "--yes", "--order", "18", "Bo", "1")[1], "settled: 1 to Bo, order 18, seq 2\n", "no note")
         why = "payd pay: order 18 has no note\n"
         shows(pay(folder, "--yes", "--order", "18", "--note", "x", "Bo", "1"), 1, "", why, of="a note later")
-        told = {"order": "19", "to": 1, "amount": 2, "seq": 3, "state": "settled", "again": False, "note": 4}
         note = 989 * "x"
+        told = {"order": "19", "to": 1, "amount": 2, "seq": 3, "state": "settled", "again": False, "note": note}
+        told["note_seq"] = 4
         words = ("--json", "--yes", "--order", "19", "--note", note, "Bo", "2")
         same(json.loads(pay(folder, *words)[1]), told, "a long one, for a script")
         group.settle([5, 0, 0, 0], [67, 33, 0, 50])
@@ -105,7 +107,8 @@ def test_two_calls_for_one_order_pay_once():
 def test_what_is_not_covered_is_not_paid():
     with Named(OPENING) as group:
         folder = group.folder(0)
-        said = "payd pay: 100 is free of the balance of 100: 101 to Bo would wait, and all behind it"
+        said = "payd pay: 100 is free of the balance of 100: 101 to Bo would wait, and each later payment of this"
+        said += " account behind it"
         shows(pay(folder, "--yes", "Bo", "101"), 1, "", f"{said} (--even-if-uncovered)\n", of="more than the balance")
         said = "payd pay: 151 is more than the whole group owns, 150\n"
         shows(pay(folder, "--yes", "--even-if-uncovered", "Bo", "151"), 1, "", said, of="more than there is")
@@ -188,7 +191,7 @@ class Terminal:
 
 def test_a_terminal_is_asked():
     with Named(OPENING) as group:
-        folder, question = group.folder(0), "pay 30 to Bo (account 1, order x), which leaves 70 free? [y/N] "
+        folder, question = group.folder(0), "pay 30 to Bo, which leaves 70 free? [y/N] "
         for answer in (b"\n", b"n\n", b"\x04", b"\x03"):
             terminal = Terminal(folder, "--order", "x", "Bo", "30")
             same(terminal.read_to("? [y/N] "), question, "the question")
@@ -204,24 +207,53 @@ def test_a_terminal_is_asked():
         terminal = Terminal(folder, "--order", "x", "Bo", "30")
         terminal.read_to("settled: 30 to Bo, order x, seq 0\r\n")
         same(("y/N" in terminal.text, terminal.end()), (False, 0), "what was agreed to is asked once")
+        words = ["--order", "y", "--even-if-uncovered", "--timeout", "1", "Cy", "80"]
+        terminal = Terminal(folder, *words)
+        blocks = "until that comes in it waits, and each later payment of this account behind it"
+        question = f"pay 80 to Cy, which is 10 more than is free: {blocks}? [y/N] "
+        same(terminal.read_to("? [y/N] "), question, "of what isn't covered")
+        os.write(terminal.own, b"y\n")
+        terminal.read_to("waiting: 80 to Cy, order y, seq 1\r\n")
+        same(terminal.end(), 4, "the end by --timeout")
         group.settle([1, 0, 0, 0], [70, 30, 0, 50])
 
 
+def test_what_waits_says_how_to_leave_it():
+    with Named(OPENING) as group:
+        words = [PAY, "--data", group.folder(0), "--yes", "--even-if-uncovered", "--order", "x"]
+        child = subprocess.Popen([*words, "Bo", "110"], stderr=subprocess.PIPE, stdout=subprocess.PIPE, text=True)
+        said = "it waits for the balance, which is short of 10 (Ctrl-C leaves it: it goes on by itself)"
+        same(child.stderr.readline(), f"payd pay: seq 0: {said}\n", "what it waits for")
+        child.send_signal(signal.SIGINT)
+        same((child.communicate(timeout=SECONDS)[0], child.returncode), (WAITS, 4), "the end by an interrupt")
+        begun = time.monotonic()
+        done = pay(group.folder(0), "--order", "x", "--timeout", "2", "Bo", "110")
+        same((done[:2], 2 <= time.monotonic() - begun < 20), ((4, WAITS), True), "the end by --timeout")
+        same("payd pay: order x, seq 0: it goes on by itself; --order x tells" in done[2], True, done[2])
+        same(pay(group.folder(0), "--timeout", "0", "Bo", "1")[0], 2, "no time at all")
+
+
+WAITS = "waiting: 110 to Bo, order x, seq 0\n"
+
+
 def test_payment_waits_for_its_node_and_its_peers():
-    """One that was asked for goes on behind a kill. A node that goes on from its log pays once enough peers are there:
-    until then the payment is given again, for ten seconds."""
+    """One that was asked for goes on behind a kill. A node with a folder pays once enough peers are there: until then
+    the payment is given again, for ten seconds."""
     with Named(OPENING, running=[0, 1]) as group:
         folder = group.folder(0)
         words = [PAY, "--data", folder, "--yes", "--order"]
         child = subprocess.Popen([*words, "one", "Bo", "30"], stderr=subprocess.PIPE, stdout=subprocess.PIPE, text=True)
-        same(child.stderr.readline(), "payd pay: seq 0: it waits for more of the group's members\n", "what it says")
+        said = "it waits for more of the group's members (Ctrl-C leaves it: it goes on by itself)"
+        same(child.stderr.readline(), f"payd pay: seq 0: {said}\n", "what it says")
         group.kill(0)
         same(child.stderr.readline().startswith("payd pay: seq 0: nobody listens"), True, "without its node")
         same(pay(folder, "--yes", "Bo", "1")[0], 3, "another payment then")
+        group.claimants.leave_all()
         group.start(0)
         status, output, errors = pay(folder, "--yes", "--order", "two", "Cy", "1")
-        same((status, output, "refused 6 TooEarly" in errors), (3, "", True), f"one that is too early: {errors}")
-        same("(--order two goes on with it, and pays once)\n" in errors, True, errors)
+        said = "payd pay: order two: refused 6 TooEarly: "
+        same((status, output, errors.startswith(said)), (3, "", True), f"one that is too early: {errors}")
+        same("; --order two tells what came of it, and pays once\n" in errors, True, errors)
         late = subprocess.Popen([*words, "two", "Cy", "1"], stderr=subprocess.PIPE, stdout=subprocess.PIPE, text=True)
         group.start(2)
         group.start(3)
@@ -231,18 +263,85 @@ def test_payment_waits_for_its_node_and_its_peers():
         group.settle([2, 0, 0, 0], [69, 30, 1, 50])
 
 
+# What an unsettled payment says at its end on standard output, and on standard error.
+GOES_ON = "asked: 30 to Bo, order one, seq 0\n", (
+    "payd pay: order one, seq 0: it goes on by itself; --order one tells what came of it, and pays once\n"
+)
+
+
 def test_interrupted_payment_goes_on():
+    """By each signal that asks it to end; a hang-up that is ignored ends it not."""
     with Named(OPENING, running=[0, 1]) as group:
         words = [PAY, "--data", group.folder(0), "--yes", "--order", "one", "Bo", "30"]
-        child = subprocess.Popen(words, stderr=subprocess.PIPE, stdout=subprocess.PIPE, text=True)
-        child.stderr.readline()
-        child.send_signal(signal.SIGINT)
-        output, errors = child.communicate(timeout=SECONDS)
-        said = ("asked: 30 to Bo, order one, seq 0\n", "payd pay: it goes on by itself\n")
-        same((child.returncode, output, errors), (4, *said), "the end")
+        for each in (signal.SIGINT, signal.SIGTERM, signal.SIGHUP):
+            child = subprocess.Popen(words, stderr=subprocess.PIPE, stdout=subprocess.PIPE, text=True)
+            while "it waits for more" not in child.stderr.readline():
+                pass
+            child.send_signal(each)
+            output, errors = child.communicate(timeout=SECONDS)
+            same((child.returncode, output, errors), (4, *GOES_ON), f"the end by {each.name}")
+        child = subprocess.Popen(["nohup", *words], stderr=subprocess.PIPE, stdout=subprocess.PIPE, text=True)
+        while "it waits for more" not in child.stderr.readline():
+            pass
+        child.send_signal(signal.SIGHUP)
         for own in (2, 3):
             group.start(own)
+        same(child.communicate(timeout=SECONDS)[0], "settled: 30 to Bo, order one, seq 0\n", "behind a hang-up")
         group.settle([1, 0, 0, 0], [70, 30, 0, 50])
+
+
+def drawn(errors):
+    """The order that standard error names before the node is asked."""
+    return re.match("payd pay: order ([0-9]+), which is paid once however often --order gives it\n", errors)[1]
+
+
+def test_each_end_names_its_order():
+    """However it ends once the node was asked: with it a retry pays nothing again."""
+    with Named(OPENING, running=[0, 1]) as group:
+        folder, amount = group.folder(0), 0
+        words = [PAY, "--data", folder, "--yes"]
+        # (a signal may come before the answer does)
+        rows = ("no wait", [4]), ("killed", [-signal.SIGKILL]), ("SIGTERM", [3, 4]), ("SIGHUP", [3, 4])
+        for ends, statuses in rows:
+            amount += 1
+            more = ["--no-wait"] if ends == "no wait" else []
+            how = {"stderr": subprocess.PIPE, "stdout": subprocess.PIPE, "text": True}
+            child = subprocess.Popen([*words, *more, "Bo", f"{amount}"], **how)
+            order = drawn(child.stderr.readline())
+            if ends != "no wait":
+                line = f"STATE 0 {amount - 1}"
+                until(lambda line=line: group.nodes[0].ask(line), f"{line.lower()} asked", of="the payment")
+                child.send_signal({"killed": signal.SIGKILL}.get(ends) or signal.Signals[ends])
+            errors = child.communicate(timeout=SECONDS)[1]
+            is_named = ends == "killed" or f"--order {order} tells" in errors
+            same((child.returncode in statuses, is_named), (True, True), f"{ends}: {child.returncode}, {errors}")
+            output = pay(folder, "--no-wait", "--order", order, "Bo", f"{amount}")[1]
+            same(output, f"asked: {amount} to Bo, order {order}, seq {amount - 1}\n", f"the order again: {ends}")
+        for own in (2, 3):
+            group.start(own)
+        group.settle([4, 0, 0, 0], [90, 10, 0, 50])
+
+
+def test_output_that_cannot_be_written_names_the_order():
+    """On a full disk, and where nobody reads: also as JSON, and where nothing is waited for."""
+    with Named(OPENING) as group:
+        folder, paid = group.folder(0), 0
+        for more in ([], ["--json"], ["--no-wait"]):
+            for is_full in (True, False):
+                reading, writing = (None, os.open("/dev/full", os.O_WRONLY)) if is_full else os.pipe()
+                if reading is not None:
+                    os.close(reading)
+                words = [PAY, "--data", folder, "--yes", *more, "Bo", "1"]
+                done = subprocess.run(words, stdout=writing, stderr=subprocess.PIPE, text=True, timeout=SECONDS)
+                os.close(writing)
+                order, why = drawn(done.stderr), "No space left on device" if is_full else "Broken pipe"
+                said = f"payd pay: order {order}: what came of it can't be written ({why}); --order {order} tells what"
+                same((done.returncode, done.stderr.splitlines()[-1].startswith(said)), (3, True), done.stderr)
+                same("Exception" in done.stderr, False, done.stderr)
+                wanted = f"settled: 1 to Bo, order {order}, seq {paid}\n"
+                same(pay(folder, "--order", order, "Bo", "1")[:2], (0, wanted), "the order again")
+                paid += 1
+        group.settle([paid, 0, 0, 0], [100 - paid, paid, 0, 50])
 
 
 def orders_in(folder):
@@ -284,7 +383,7 @@ def test_order_is_kept_before_the_node_is_asked():
         between = Between(folder, "PAY")
         between.start()
         status, output, errors = pay(folder, "--socket", between.path, *words)
-        same((status, output, "--order x goes on with it, and pays once" in errors), (3, "", True), errors)
+        same((status, output, "--order x tells what came of it, and pays once" in errors), (3, "", True), errors)
         same(between.seen, True, "whether the order was kept before")
         same(pay(folder, *words)[:2], (0, "settled: 30 to Bo, order x, seq 0\n"), "the order again")
         group.settle([1, 0, 0, 0], [70, 30, 0, 50])
@@ -296,7 +395,7 @@ def test_note_whose_answer_is_lost_is_said_once():
         between = Between(folder, "NOTE")
         between.start()
         status, output, errors = pay(folder, "--socket", between.path, *words)
-        same((status, output, "--order x goes on with it, and pays once" in errors), (3, "", True), errors)
+        same((status, output, "--order x tells what came of it, and pays once" in errors), (3, "", True), errors)
         same(pay(folder, *words)[:2], (0, "settled: 30 to Bo, order x, seq 0, note seq 1\n"), "the order again")
         group.settle([2, 0, 0, 0], [70, 30, 0, 50])
 
@@ -316,7 +415,9 @@ def test_status_at_a_glance():
     begun = now()
     with Named(OPENING) as group:
         folder = group.folder(0)
-        until(lambda: first_line(folder), "well", of="a member that meets all")
+        said = "peers met 3, lost 0"
+        until(lambda: said in tool("status", folder)[1].splitlines(), True, of="a member that meets all")
+        same(first_line(folder), "well", "a member that meets all")
         same(pay(folder, "--yes", "Bo", "30")[0], 0, "a payment")
         status, output, errors = tool("status", folder)
         same((status, errors), (0, ""), output)
@@ -349,6 +450,51 @@ def test_status_at_a_glance():
         same("start the node\nmember 0 Ada, genesis " in output, True, output)
 
 
+def test_payments_that_stand_still_are_told():
+    """By status and pay, while too few members run: not in the first seconds of a start, and not once they are back."""
+    still = "payments stand still: {} of 4 members run, 3 are needed"
+    with Named(OPENING, running=[0]) as group:
+        folder = group.folder(0)
+        until(lambda: first_line(folder), "well", of="the first seconds of a start")
+        group.claimants.leave_all()
+        until(lambda: first_line(folder), f"attention: {still.format(1)}", of="a member alone")
+        words = [PAY, "--data", folder, "--yes", "--order", "one", "Bo", "30"]
+        child = subprocess.Popen(words, stderr=subprocess.PIPE, stdout=subprocess.PIPE, text=True)
+        said = f"payd pay: seq 0: {still.format(1)} (Ctrl-C leaves it: it goes on by itself)\n"
+        same(child.stderr.readline(), said, "what a payment waits for")
+        group.start(1)
+        until(lambda: first_line(folder), f"attention: {still.format(2)}", of="one of two")
+        group.start(2)
+        same(child.communicate(timeout=SECONDS)[0], "settled: 30 to Bo, order one, seq 0\n", "the payment")
+        until(lambda: first_line(folder), "attention: 2 of 3 peers are met", of="one of three")
+
+
+FIGURES = """payd_peers_met 3
+payd_sent_frames_total 7
+payd_peer_met{{peer="1"}} {met}
+payd_peer_unopened{{peer="1"}} 1
+payd_peer_asked_frames_total{{peer="1"}} 7
+"""
+
+
+def test_figures_want_attention_while_they_are_news():
+    """Of a node that answers and writes none; and of frames that don't open until the peer of their name is met."""
+    with Named(OPENING, running=[0]) as group:
+        folder = group.folder(0)
+        path = os.path.join(folder, "status.prom")
+        until(lambda: os.path.exists(path), True, of="figures")
+        os.remove(path)
+        os.mkdir(path)
+        said = f"attention: the node answers, and writes no figures to status.prom in {folder}"
+        same((tool("status", folder)[0], first_line(folder)), (1, said), "a node without figures")
+        group.kill(0)
+        os.rmdir(path)
+        for met, is_told in ((0, True), (1, False)):
+            write_text(path, FIGURES.format(met=met))
+            output = tool("status", folder)[1]
+            same("frames in the name of peer 1 don't open" in output, is_told, output)
+
+
 def test_a_folder_that_others_may_write_is_refused():
     """Its desk might be another's, whatever tool asks it."""
     with Named(OPENING, running=[0]) as group:
@@ -361,8 +507,36 @@ def test_a_folder_that_others_may_write_is_refused():
             shows(tool("follow", folder), 2, "", f"payd follow: {said}", of=f"payments at {mode:o}")
             shows(tool("desk-page", folder), 1, "", f"payd desk-page: {said}", of=f"the page at {mode:o}")
         os.chmod(folder, 0o755)
-        same(tool("status", folder)[0], 1, "the status where others may read")
+        same(tool("status", folder)[0] in (0, 1), True, "whether a folder that others may read is taken")
         same(group.nodes[0].lines_of("WAITING 0"), ["end 0 short 0"], "what was asked for")
+
+
+def test_an_order_that_cannot_be_kept_asks_for_nothing():
+    """The path, the reason and what is so now are said, and the desk was asked for no payment."""
+    with Named(OPENING, running=[0]) as group:
+        folder = group.folder(0)
+        words = [os.path.join(TOP, "tools", "pay"), "--data", folder, "--yes", "Bo", "30"]
+        status, output, errors = call(["prlimit", "--fsize=0", *words])
+        part = re.escape(os.path.join(folder, "orders", ".part"))
+        said = rf"payd pay: {part}\w+: File too large: nothing was asked for\n"
+        same((status, output, re.fullmatch(said, errors) is not None), (3, "", True), errors)
+        os.rmdir(os.path.join(folder, "orders"))
+        write_text(os.path.join(folder, "orders"), "")
+        status, _, errors = pay(folder, "--yes", "Bo", "30")
+        order = rf"{re.escape(folder)}/orders/[0-9a-f]+"
+        said = rf"payd pay: {order}: Not a directory: nothing was asked for\n"
+        same((status, re.fullmatch(said, errors) is not None), (3, True), errors)
+        same(group.nodes[0].lines_of("WAITING 0"), ["end 0 short 0"], "what was asked for")
+
+
+def test_a_change_is_advised_of_a_members_folder_alone(folder):
+    """Others may write in a system's folder: it has no member, and its rights are nobody's to change here."""
+    os.chmod(folder, 0o1777)
+    for tool_of in ("status", "pay"):
+        words = ["--yes", "Bo", "30"] if tool_of == "pay" else []
+        status, output, errors = call([os.path.join(TOP, "tools", tool_of), "--data", folder, *words])
+        said = f"payd {tool_of}: {folder}: there is no member here: it has no log\n"
+        same((status, output, errors), (2, "", said), tool_of)
 
 
 # ---- following
@@ -401,6 +575,38 @@ def test_notes_are_followed():
         finally:
             for it in followers:
                 it.kill()
+
+
+OF_ANOTHERS = "Bo said: seq 0 of another's, seq 0 entry 0"
+
+
+def test_note_stands_at_its_payment():
+    """At payer and payee, in one line, in `follow` and `status`; one of another payment or without one stands apart."""
+    with Named(OPENING) as group:
+        words = ["--from", "0"], ["--from", "0"], ["--from", "0", "--all", "--json"]
+        followers = [follow(group, own, *more) for own, more in zip((0, 1, 1), words)]
+        try:
+            same(pay(group.folder(0), "--yes", "--note", 'Pizza "Friday"\u202e', "Bo", "12")[0], 0, "a payment")
+            same(pay(group.folder(0), "--yes", "Bo", "3")[0], 0, "one without a note")
+            same(group.nodes[0].ask("NOTE 1 seq 7 of none"), "asked 1 seq 3", "a note of no payment")
+            same(group.nodes[1].ask("NOTE 1 seq 0 of another's"), "asked 1 seq 0", "a note of another's payment")
+            group.settle([4, 1, 0, 0])
+            paid = ['Ada paid 12 to Bo "Pizza "Friday"\\u202e", seq 0 entry 0', "Ada paid 3 to Bo, seq 2 entry 2"]
+            for it, apart in (followers[0], "Ada said: seq 7 of none, seq 3 entry 3"), (followers[1], OF_ANOTHERS):
+                lines = [it.line().partition(" ")[2] for _ in range(3)]
+                same(sorted(lines), sorted([*paid, apart]), "payments with notes, and one apart")
+            lines = [json.loads(followers[2].line()) for _ in range(4)]
+            seen = [(it["account"], it["entry"], it["amount"], it["note"]) for it in lines]
+            wanted = [(0, 0, 12, 'Pizza "Friday"\u202e'), (0, 2, 3, None), (0, 3, None, "seq 7 of none")]
+            same(sorted(seen), [*wanted, (1, 0, None, "seq 0 of another's")], "the same for a script")
+        finally:
+            for it in followers:
+                it.kill()
+        for own in (0, 1):
+            status = tool("status", group.folder(own))[1]
+            same('Ada paid 12 to Bo "Pizza "Friday"\\u202e"\n' in status, True, status)
+        told = json.loads(tool("status", group.folder(1), "--json")[1])["last"]
+        same([it["note"] for it in told if it["amount"] == 12], ['Pizza "Friday"\u202e'], "the same for a script")
 
 
 def test_follow_has_the_times_of_the_nodes_file():
@@ -466,6 +672,79 @@ def test_payments_are_followed_behind_a_restart():
             again.kill()
         for words in ("1,2", "x", "-1"):
             same(tool("follow", group.folder(1), "--from", words)[:2], (2, ""), f"--from {words}")
+
+
+def test_times_of_a_wrong_clock_are_unsure():
+    """After a start ten years ahead, by the file that a node would have written: in `follow`, `status` and `books`."""
+    with Named(OPENING) as group:
+        folder = group.folder(0)
+        for seq in range(2):
+            group.pay(0, seq, 1, 1, seq)
+        group.settle([2, 0, 0, 0])
+        until(lambda: in_words(group, 0, 1) is not None, True, of="the time")
+        ahead, day = "2036-11-30T00:00:00Z 1 0 0 0\n", now()[:10]
+        write_text(times_path(folder), ahead)
+        doubt = " days behind the last time in the folder, 2036-11-30T00:00:00Z: is it right?"
+        same(doubt in first_line(folder), True, f"what wants attention: {first_line(folder)}")
+        midnight = "T".join((day, "00:00:00Z"))
+        write_text(times_path(folder), f"{ahead}{midnight} 2 0 0 0\n")
+        follower = follow(group, 0, "--from", "0")
+        try:
+            unsure = ", at a time that is unsure: the clock was wrong"
+            wanted = [f"{midnight} Ada paid 1 to Bo, seq {it} entry {it}{unsure * (it == 0)}" for it in range(2)]
+            same([follower.line() for _ in wanted], wanted, "what is followed")
+        finally:
+            follower.kill()
+        lines = tool("status", folder)[1].splitlines()
+        paid, unsure = f"  {midnight} Ada paid 1 to Bo", ", which is unsure: the clock was wrong"
+        same(sorted(lines[-2:]), [paid, paid + unsure], "the last payments")
+        made = {**group.genesis(), "ports": [1, 2, 3, 4], "group": "1" * 64}
+        write_json(folder, "made", {**made, "public": [f"{it:064x}" for it in range(4)], "names": ["A", "B", "C", "D"]})
+        write_text(f"{folder}/export", group.stop()[0])
+        words = [f"{TOP}/tools/books", "--group", "made", "--times", "times", "export"]
+        status, output, errors = call(words, folder=folder)
+        same((status, output.count("date unsure")), (0, 1), errors)
+        same(f"{day} (0.0) B  ; account 0 seq 0 entry 0, date unsure\n" in output, True, output)
+
+
+def test_follow_ends_quietly_with_its_reader():
+    with Named(OPENING) as group:
+        words = f"'{TOP}/tools/follow' --data '{group.folder(0)}' --from 0 | head -n 1; echo ${{PIPESTATUS[0]}}"
+        how = {"stdout": subprocess.PIPE, "stderr": subprocess.PIPE, "text": True}
+        with subprocess.Popen(["bash", "-c", words], **how) as child:
+            # (it ends by the first line that nobody reads)
+            for seq in range(60):
+                if child.poll() is None:
+                    group.pay(0, seq, 1, 1, seq)
+                    with contextlib.suppress(subprocess.TimeoutExpired):
+                        child.wait(0.5)
+            output, errors = child.communicate(timeout=SECONDS)
+        same((output.splitlines()[-1], errors), ("0", ""), "how it ends")
+        same("Ada paid 1 to Bo, seq 0 entry 0" in output, True, output)
+
+
+def test_types_agree_for_scripts():
+    """In `pay`, `status` and `follow` numbers are numbers, and a note is a text."""
+    with Named(OPENING) as group:
+        folder = group.folder(0)
+        words = ["--yes", "--json", "--even-if-uncovered", "--no-wait", "--note", "rent"]
+        paid = json.loads(pay(folder, *words, "Bo", "110")[1])
+        until(lambda: len(json.loads(tool("status", folder, "--json")[1])["waiting"]), 1, of="what waits")
+        (waits,) = json.loads(tool("status", folder, "--json")[1])["waiting"]
+        wanted = {"to": 1, "amount": 110, "seq": 0, "note": "rent"}
+        same(*({it: each[it] for it in wanted} for each in (paid, waits)), "pay and status")
+        same({it: paid[it] for it in wanted}, wanted, "pay")
+        group.pay(3, 1, 0, 20, 0)
+        group.settle([2, 0, 0, 1])
+        until(lambda: len(json.loads(tool("status", folder, "--json")[1])["last"]), 2, of="what settled")
+        last = json.loads(tool("status", folder, "--json")[1])["last"]
+        follower = follow(group, 0, "--from", "0", "--json")
+        try:
+            lines = [json.loads(follower.line()) for _ in range(2)]
+        finally:
+            follower.kill()
+        key = lambda it: it["account"]
+        same([{**it, "time": 0} for it in sorted(last, key=key)], [{**it, "time": 0} for it in lines], "status, follow")
 
 
 def test_following_begins_with_what_settles_then():

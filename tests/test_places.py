@@ -1,15 +1,17 @@
 """Black-box tests of places: which of the connections that others dialed stand at a node, and which are given up."""
 
 import contextlib
+import os
 import select
 import threading
 import time
 
-from frames import WANT, frame
-from nodes import UNOPENED, Group, free_ports, until
-from peers import Replays, Strangers, connected, has_ended, received
-from relay import Relayed, relays_at
-from runs import same
+from payd_tools.frames import WANT, frame
+from support.clients import Client
+from support.nodes import PATIENCE, UNOPENED, Group, Node, free_ports, until
+from support.peers import Replays, Strangers, connected, has_ended, received
+from support.relay import Relayed, relays_at
+from support.runs import same
 
 # How many connections stand at a node at once.
 MOST_CONNECTIONS = 256
@@ -63,6 +65,71 @@ def test_no_old_want_ends_a_current_connection():
         group.stop()
 
 
+def limited(descriptors):
+    """Has a node be run with so many descriptors."""
+    return ["sh", "-c", f'ulimit -n {descriptors} && exec "$@"', "sh"]
+
+
+class Limited(Group):
+    """A group whose member 0 may have few descriptors."""
+
+    descriptors = 256
+
+    def start(self, own, ports="ports", options=()):
+        options = [*self.options, *options, "--dials", "always"]
+        if own == 0:
+            options += ["--socket", "desk"]
+        prefix = limited(self.descriptors) if own == 0 else ()
+        self.nodes[own] = Node(own, self.place.name, ports, options, prefix=prefix)
+        return self.nodes[own]
+
+
+class Least(Limited):
+    # of four members: 64 beside connections, three for each member and four for each one's two places
+    descriptors = 64 + 4 * 3 + 4 * 4
+
+
+def answers_all_but_strangers(kind):
+    """Peers that come behind many strangers are answered, and so are the owner and all clients of the desk, within what
+    the system lets the node have."""
+    with kind(OPENING, running=[0]) as group, Strangers(3, 0, group.ports[0]) as strangers:
+        for _ in range(300):
+            strangers.dial()
+        clients = [Client(os.path.join(group.place.name, "desk")) for _ in range(16)]
+        for own in (1, 2):
+            group.start(own)
+        group.pay(0, 7, payee=1, amount=30, seq=0)
+        group.settle([1, 0, 0, 0], [970, 1030, 1000, 0])
+        for client in clients:
+            same(client.ask("FRONT"), "front 1 0 0 0", "a client of the desk")
+        node = group.nodes[0]
+        same((node.open_files() <= kind.descriptors, node.open_files()), (True, node.open_files()), "descriptors")
+        for client in clients:
+            client.stream.close()
+        group.stop()
+
+
+def test_strangers_shut_out_nobody_where_descriptors_are_few():
+    answers_all_but_strangers(Limited)
+
+
+def test_strangers_shut_out_nobody_with_the_least_descriptors():
+    answers_all_but_strangers(Least)
+
+
+def test_a_start_with_too_few_descriptors_says_so():
+    """It names the limit, and what the group needs; nothing else has changed."""
+    with Group(OPENING, running=[]) as group:
+        for descriptors in (40, Least.descriptors - 1):
+            options = ["--data", "data-0"]
+            node = Node(0, group.place.name, options=options, prefix=limited(descriptors))
+            output, errors = node.child.communicate(timeout=PATIENCE)
+            said = f"payd: descriptors {descriptors}: a node of this group needs {Least.descriptors}: "
+            said += f"ulimit -n {Least.descriptors}\n"
+            same((node.child.returncode, output, errors.decode()), (3, b"", said), f"with {descriptors}")
+            same(os.path.exists(os.path.join(group.place.name, "data-0")), False, "whether it made a member")
+
+
 # For how many seconds a connection may ask for nothing new, and how many more a busy machine may take.
 QUIET, LATER = 120, 40
 
@@ -87,7 +154,7 @@ def test_quiet_connections_are_given_up_for_others_of_their_peers():
 
 
 def test_frames_that_do_not_open_are_told_of_once():
-    """In the name of a peer that is met as well; nothing is told of a frame that opens, or that is for another."""
+    """In the name of a peer whose WANTs open as well; nothing is told of a frame that opens, or that is for another."""
     with Group(OPENING, running=[0]) as group, Strangers(3, 0, group.ports[0]) as strangers:
         node = paid_node(group)
         stream = strangers.dial()
@@ -99,7 +166,7 @@ def test_frames_that_do_not_open_are_told_of_once():
             stream.sendall(strangers.want(1, key=key) + strangers.want(1))
             same(received(stream) is not None, True, "what comes before a wrong tag")
             same(received(stream), None, "what comes behind it")
-        until(lambda: [it for it in node.news() if it[0] == 3], [(3, "met"), (3, UNOPENED)], of="what is said of 3")
+        until(lambda: [it for it in node.news() if it[0] == 3], [(3, UNOPENED)], of="what is said of 3")
         group.stop()
         same([it for it in node.news() if it[0] != 3 and it[1] == UNOPENED], [], "what is said of the others")
         same(node.news().count((3, UNOPENED)), 1, "how often")

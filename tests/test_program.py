@@ -5,10 +5,11 @@ import re
 import subprocess
 import tempfile
 
-from test_check import BAD_TAG, TWICE
-from completions import Command, commands_of
-from nodes import free_ports, write_json
-from runs import SECONDS, TOP, call, heard, in_gate, payd, read_bytes, read_text, run, same
+from payd_tools.repository.completions import Command, commands_of
+from support.nodes import free_ports, write_json
+from support.runs import SECONDS, TOP, call, heard, in_gate, payd, read_bytes, read_text, run, same
+from test_check import BAD_TAG
+from test_file import TWICE
 
 # ---- words
 
@@ -49,7 +50,7 @@ MISTAKES = (
     (["check", "a", "b"], "unexpected argument 'a' found", None),
     (["desk", "--keys", "k"], "the following required arguments were not provided:", "  --genesis <FILE>"),
     (["audit"], "the following required arguments were not provided:", "  <FILE>..."),
-    (["check", "--jobs"], "a value is required for '--jobs <COUNT>' but none was supplied", None),
+    (["check", "--keys"], "a value is required for '--keys <FILE>' but none was supplied", None),
     (["check", "--values=1"], "unexpected value '1' for '--values' found; no more were expected", None),
 )
 
@@ -66,7 +67,7 @@ def test_mistakes_say_what_is_right():
         same(lines[-1], "payd: For more information, try '--help'.", f"{words}: where there is help")
 
 
-# ---- what README shows
+# ---- what README and the tutorial show
 
 
 def shown_commands(text):
@@ -77,21 +78,28 @@ def shown_commands(text):
             yield command, output
 
 
-def test_readme_shows_what_is_printed():
-    commands = list(shown_commands(read_text(os.path.join(TOP, "README.md"))))
-    same(len(commands) >= 3, True, "README has its examples")
+def test_pages_show_what_is_printed():
+    commands = [it for page in ("README.md", "docs/tutorial.md") for it in shown_commands(read_text(f"{TOP}/{page}"))]
+    same(len(commands) >= 4, True, "the pages have their examples")
+    for command, output in commands:
+        done = subprocess.run(["bash", "-c", command], cwd=TOP, capture_output=True, timeout=SECONDS)
+        same((done.stdout.decode(), heard(done.stderr.decode())), (output, ""), command)
     with tempfile.TemporaryDirectory() as folder:
         # the ports that the example names may be somebody else's here
         write_json(folder, "ports", {"ports": free_ports(4)})
-        for command, output in commands:
-            words = command.replace("examples/four-nodes", f"examples/four-nodes {folder}/ports")
-            # a file that a command writes isn't written into this tree
-            words = re.sub(r"> ([\w.]+)$", rf"> {folder}/\1", words)
-            done = subprocess.run(["bash", "-c", words], cwd=TOP, capture_output=True, timeout=SECONDS)
-            same((done.stdout.decode(), heard(done.stderr.decode())), (output, ""), command)
-        for name, beginning in (("report.html", "<!DOCTYPE html>"), ("run.svg", "<svg ")):
-            with open(os.path.join(folder, name), encoding="utf-8") as file:
-                same(file.read(len(beginning)), beginning, name)
+        done = subprocess.run([f"{TOP}/examples/four-nodes", f"{folder}/ports"], capture_output=True, timeout=SECONDS)
+        said = done.stdout.decode().splitlines()[-2:]
+        same(said, ["node 3: front 1 0 0 1, balances 90 30 0 30", "audit of their exports: clean"], "four nodes")
+
+
+def test_pages_are_drawn():
+    """Of the examples, by the tools that the pages name."""
+    for words, beginning in (
+        (["report", "examples/export-0.json", "examples/export-2.json"], "<!DOCTYPE html>"),
+        (["draw", "examples/double-spend.txt"], "<svg "),
+    ):
+        done = subprocess.run([f"{TOP}/payd", *words], cwd=TOP, capture_output=True, timeout=SECONDS)
+        same((done.returncode, done.stdout.decode()[: len(beginning)]), (0, beginning), f"{words}")
 
 
 def test_example_stream_is_encoded():
@@ -114,9 +122,10 @@ def test_not_utf8_words():
 
 
 def test_version_is_printed():
-    """By ./payd, which says on standard error whether the program is proved."""
+    """By ./payd, which says whether the program is proved: of one that isn't on standard output too."""
     for word in ("--version", "-V"):
         done = subprocess.run([os.path.join(TOP, "payd"), word], input=TWICE, capture_output=True, timeout=SECONDS)
-        same((done.returncode, done.stdout), (0, b"payd 0.1.0\n"), word)
-        said = r"payd: proved, of sources [0-9a-f]{16}, by \S.*\n" if in_gate() else r"payd: (not )?proved.*\n"
+        is_proved = in_gate() or done.stderr.startswith(b"payd: proved")
+        same((done.returncode, done.stdout), (0, b"payd 0.1.0\n" if is_proved else b"payd 0.1.0 unverified\n"), word)
+        said = r"payd: proved, of sources [0-9a-f]{16}, by \S.*\n" if is_proved else r"payd: (UNVERIFIED|not ).*\n"
         same(bool(re.fullmatch(said, done.stderr.decode())), True, f"{word}: {done.stderr}")

@@ -8,13 +8,12 @@ import re
 import tempfile
 import xml.etree.ElementTree as xml
 
-import audits
-import group_books
-from audits import FORKED, FRESH, PAID, PAID_ON, TWO_ENTRIES, WORKED
-from frames import payment, payments
+from models import audits, group_books
+from models.audits import FORKED, FRESH, PAID, PAID_ON, TWO_ENTRIES, WORKED
+from payd_tools.frames import payment, payments
+from payd_tools.values import numbered_entries
+from support.runs import TOP, UNWRITTEN, call, run_to_nobody, same, write_text
 from test_books import group_of
-from runs import TOP, UNWRITTEN, call, run_to_nobody, same, write_text
-from values import numbered_entries
 
 REPORT = os.path.join(TOP, "tools", "report")
 MOST_BYTES = 2_000_000
@@ -94,6 +93,13 @@ def agrees(page, given):
     )
 
 
+def headline_of(line):
+    """What stands above, by the number of a verdict."""
+    own = "an export contradicts its own lists"
+    said = {"1": "these exports are of different groups", "2": own, "3": own, "4": "the exports contradict one another"}
+    return f"Audit: {said.get(line.split(' ')[0], line)}"
+
+
 def heights(page, given):
     """Of each account the most that it had, by the page's order of entries, in which nobody is below zero."""
     balances = list(given["opening"])
@@ -119,7 +125,7 @@ def test_pages_as_the_model_has_them():
         given += audits.random_exports(seeded)
     for it in given:
         page = Page([it])
-        same(page.said("h1"), [f"Audit: {audits.verdict([it])}"], f"the verdict of {it}")
+        same(page.said("h1"), [headline_of(audits.verdict([it]))], f"the verdict of {it}")
         agrees(page, it)
 
 
@@ -127,7 +133,7 @@ def test_pages_of_groups():
     """The verdict is that of all. The group's book is shown, or that of the export with the most settled entries."""
     for _, exports, line in audits.ROWS:
         page = Page(exports)
-        same(page.said("h1"), [f"Audit: {line}"], f"the verdict of {exports}")
+        same(page.said("h1"), [headline_of(line)], f"the verdict of {exports}")
         counts = [sum(audits.largest_front(it)) for it in exports]
         rows = [(k, f"{k}.json", it["member"], counts[k]) for k, it in enumerate(exports)]
         same(page.rows("exports"), rows, f"the exports of {exports}")

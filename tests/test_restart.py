@@ -1,8 +1,9 @@
 """Black-box tests of nodes whose members live in folders: killed at any moment, and started again with the same words.
 
-What a log has to have is written down in tests/models/logs.py. tests/kills kills more often, and damages each bit.
+What a log has to have is written down in tools/payd_tools/logs.py. tests/kills kills more often, and damages each bit.
 """
 
+import contextlib
 import hashlib
 import os
 import random
@@ -14,15 +15,20 @@ import struct
 import subprocess
 from collections import Counter
 
-from advices import told_plainly
-from frames import SEND, frame, payment
-from damaged_logs import OPENING, bits, cuts, export, made_folder
-from logs import FIRST, HEADER_LEN, QUERY, SECOND, THIRD, Log
-from nodes import EARLY, IN_MEMORY, export_text, free_ports, new_words, started, until, write_json, write_member
-from ordering import Order, OutOfOrder, noted
-from peers import Liar, Strangers, connected, received
-from restarts import NEW, Folders, killed_and_started_again, told
-from runs import GENESIS, SECONDS, key_texts, payd, read_bytes, same, shows, with_files
+import pytest
+
+from payd_tools.frames import SEND, payment
+from payd_tools.logs import HEADER_LEN, VERSION, Log
+from support.advices import told_plainly
+from support.clients import Client
+from support.damaged_logs import OPENING, bits, cuts, export, made_folder
+from support.nodes import (
+    EARLY, IN_MEMORY, export_text, fed, free_ports, met, new_words, told_apart, until, write_json, write_member,
+)
+from support.ordering import Order, OutOfOrder, noted
+from support.peers import Claimants, Liar, Strangers, connected, received
+from support.restarts import NEW, Folders, killed_and_started_again, told
+from support.runs import GENESIS, SECONDS, call, key_texts, payd, read_bytes, read_text, same, shows, with_files
 
 FRESH = [[], [], [], []]
 # what a folder has after a clean end
@@ -30,8 +36,6 @@ ENDED = ["ended", "group.json", "keys.json", "log"]
 DISK, HELD = "payd: log 1 Disk\n", "payd: log 2 Held\n"
 CHANGED = "payd: log 6 Changed\npayd: the log ended cleanly and isn't whole any more: put that very log back, and "
 CHANGED += "never an older one\n"
-FORGOTTEN = "payd: log 7 Forgotten\npayd: this log is older than what the group has settled for its member: never "
-FORGOTTEN += "start it again in this group; its balance goes on in the next one\n"
 MISSING = "payd: log 8 Missing\npayd: there is no log in this folder: --new makes a member there, but one that had a "
 MISSING += "log needs that very log, which may be on a disk that isn't mounted\n"
 EXISTS = "payd: log 9 Exists\npayd: there is or was a log in this folder: without --new its member goes on where it "
@@ -87,7 +91,7 @@ def test_a_node_says_what_its_log_has():
 
 
 def test_a_node_says_who_it_is_and_that_it_is_in_memory_alone():
-    with Folders(OPENING, running=[]) as group:
+    with Folders(OPENING, running=[], claiming=[]) as group:
         words = ["node", "--genesis", "genesis", "--keys", "keys-0", "--ports", "ports"]
         how = {"input": b"", "cwd": group.place.name, "capture_output": True, "timeout": SECONDS}
         done = subprocess.run([payd(), *words], **how)
@@ -121,13 +125,24 @@ def test_a_node_stays():
 # ---- folders
 
 
+# By how many claims of peers a node of four may pay.
+CLAIMS = 2
+
+
+def running(place, words, **how):
+    """A node's process."""
+    pipe = subprocess.PIPE
+    how = {"cwd": place, "stdin": pipe, "stdout": pipe, "stderr": pipe, "bufsize": 0, **how}
+    return subprocess.Popen([payd(), "node", *words], **how)
+
+
 def node_on(place, own, folder, text=b"", flags=None, **how):
-    """What a node without peers does with a folder, in which its member is made if there is none."""
+    """What a node among claimants does with a folder, in which its member is made if there is none."""
     words = ["--genesis", "genesis", "--keys", f"keys-{own}", "--ports", "ports", "--data", folder]
     words += new_words(place, words) if flags is None else flags
-    how = {"input": text, "cwd": place, "capture_output": True, "timeout": SECONDS, **how}
-    done = subprocess.run([payd(), "node", *words], **how)
-    return done.returncode, done.stdout.decode("ascii"), started(told_plainly(done.stderr.decode()))
+    with running(place, words, **how) as child:
+        output, errors = fed(child, text, CLAIMS if text else 0)
+    return child.returncode, output, told_apart(errors)[1]
 
 
 def test_one_node_has_a_folder():
@@ -140,6 +155,9 @@ def test_one_node_has_a_folder():
         os.link(os.path.join(group.place.name, "data-0", "log"), os.path.join(linked, "log"))
         shows(node_on(group.place.name, 0, "linked"), 3, "", HELD, of="another node, by another name of the log")
         group.kill(0)
+
+
+OTHER_VERSIONS = 0, VERSION - 1, VERSION + 1, 255
 
 
 def test_folders_of_others():
@@ -159,7 +177,7 @@ def test_folders_of_others():
         ):
             shows(export(place, **words), 2, "", f"payd: log 3 Foreign {name}\n", of=f"{words}")
         for content, name in ((b"", "NoLog"), (log[: HEADER_LEN - 1], "NoLog"), (b"x" + log[1:], "NoLog"),
-                              *((log[:8] + bytes([it]) + log[9:], "Version") for it in (0, 3, THIRD + 1, 255))):
+                              *((log[:8] + bytes([it]) + log[9:], "Version") for it in OTHER_VERSIONS)):
             made = made_folder(place, "made", content)
             shows(export(place, 0, "made"), 2, "", f"payd: log 3 Foreign {name}\n", of=f"a file of {content[:9]!r}")
             shows(node_on(place, 0, "made"), 2, "", f"payd: log 3 Foreign {name}\n", of=f"a node on {content[:9]!r}")
@@ -211,22 +229,25 @@ def test_an_export_changes_nothing():
         same((read_bytes(log), os.listdir(os.path.dirname(log))), (torn, ["log"]), "what is left")
 
 
-def test_an_old_copy_of_a_folder_is_refused():
-    """Put back, it settles as its own what it was never asked for, which the next start finds."""
-    with Folders(OPENING) as group:
-        folder, old = (os.path.join(group.place.name, name) for name in ("data-0", "old"))
-        shutil.copytree(folder, old, ignore=shutil.ignore_patterns("desk"))
+@pytest.mark.needs("strace")
+def test_an_export_shows_what_is_on_the_disk():
+    """The log's bytes and its name are synced before any of them is shown, and a failed sync shows nothing."""
+    synced = re.compile(r"(?:fsync|fdatasync)\(\d+<(.*?)>\) += 0")
+    with Folders(OPENING, running=[0]) as group:
+        place = group.place.name
         group.pay(0, 7, payee=1, amount=30, seq=0)
-        group.settle([1, 0, 0, 0], [70, 30, 0, 50])
         group.kill(0)
-        shutil.rmtree(folder)
-        shutil.move(old, folder)
-        group.start(0)
-        until(group.nodes[0].front, [1, 0, 0, 0], of="the front by an old copy")
-        group.kill(0)
-        before = read_bytes(os.path.join(folder, "log"))
-        shows(node_on(group.place.name, 0, "data-0"), 4, "", FORGOTTEN)
-        same(read_bytes(os.path.join(folder, "log")), before, "the log")
+        folder, notes = os.path.join(place, "data-0"), os.path.join(place, "notes")
+        words = [payd(), "export", "--genesis", "genesis", "--keys", "keys-0", "--data", "data-0"]
+        calls = ["strace", "-f", "-y", "-qq", "-o", notes, "-e", "trace=fsync,fdatasync,write"]
+        status, text, errors = call([*calls, *words], folder=place)
+        same((status, text, errors), (0, export_text(0, OPENING, FRESH, [0, 0, 0, 0], OPENING), ""), "an export")
+        before, _, _ = read_text(notes).partition("write(1<")
+        same(set(synced.findall(before)), {folder, os.path.join(folder, "log")}, "what is synced before it is shown")
+        for when in (1, 2):
+            words_of = [*calls, "-e", f"inject=fsync,fdatasync:error=EIO:when={when}", *words]
+            status, text, errors = call(words_of, folder=place)
+            same((status, text, errors.split("\n")[0]), (4, "", "payd: log 1 Disk"), f"where sync {when} fails")
 
 
 def test_a_torn_end_is_kept():
@@ -316,14 +337,6 @@ def test_a_log_with_a_bit_turned(damage):
         damage.judge(file, of)
 
 
-def test_a_changed_version_makes_no_log_of_another_version(damage):
-    """In one of the first version no chunk would be found, so that all would be lost as a torn end."""
-    for version in {*range(256)} - {THIRD}:
-        made_folder(damage.place, "turned", damage.file[:8] + bytes([version]) + damage.file[9:])
-        said = "Keys" if version in (FIRST, SECOND) else "Version"
-        shows(export(damage.place, 0, "turned"), 2, "", f"payd: log 3 Foreign {said}\n", of=f"version {version}")
-
-
 def test_a_log_with_chunks_moved(damage):
     """A chunk left out, doubled, swapped with the next, or put at the end, fits nowhere."""
     chunks = [damage.file[start:end] for start, end in zip(damage.ends, damage.ends[1:])]
@@ -337,38 +350,6 @@ def test_a_log_with_chunks_moved(damage):
             damage.judge(header + b"".join(changed), f"chunk {place} {name}")
     damage.judge(damage.file + chunks[0], "the first chunk at the end once more")
     damage.judge(damage.file + damage.log.chunk(len(damage.file), b""), "an empty chunk behind the end")
-
-
-def test_a_record_of_another_program(damage):
-    """Chunks that fit, with what this member never had there, name the record; nothing is cut."""
-    records = damage.log.records(damage.file)
-    count = len(records)
-    for payload, of in (
-        (b"\x00", "a kind that isn't one"),
-        (b"\x01\x00\x00", "half a record"),
-        (bytes([QUERY]) + bytes(2) + b"\x00\x03" + bytes(8 + 4 + 4), "a query with another answer"),
-        (bytes([QUERY]) + bytes(2) + b"\x00\x09" + bytes(8 + 4 + 4), "a query for nobody"),
-        (b"\x02" + bytes(7) + frame(SEND, 1, 0, 10**6, owner=1), "a frame out of turn"),
-        (b"\x02" + bytes(7) + frame(SEND, 1, 0, 0, owner=1, key=bytes(32)), "a frame under another key"),
-        (b"\x01" + bytes(2) + bytes(8) + b"\x00\x00\x00\x09" + b"\x00\x00", "an ask with another number"),
-    ):
-        file = damage.file + damage.log.chunk(len(damage.file) - HEADER_LEN, payload)
-        path = made_folder(damage.place, "illegal", file)
-        shows(export(damage.place, 0, "illegal"), 2, "", f"payd: log 5 Illegal {count}\n", of=of)
-        same(read_bytes(path), file, f"{of}: the log")
-    twice = b"\x01" + bytes(2) + struct.pack(">QIH", 7, 2, 11) + payment(1, 1)
-    made_folder(damage.place, "twice", damage.file + damage.log.chunk(len(damage.file) - HEADER_LEN, twice))
-    was = node_on(damage.place, 0, "twice")
-    shows(was, 2, "", f"payd: log 5 Illegal {count + 1}\n", of="an id that two payments have")
-
-
-def test_a_torn_chunk_of_marks(damage):
-    """Marks that anybody can make are nothing to a log of a later version than the first: they cost what other bytes
-    cost."""
-    last = damage.log.chunk(damage.ends[-1] - HEADER_LEN, bytes(1 << 22))
-    mark = b"plog" + struct.pack(">I", 1 << 21)
-    torn = last[:20] + mark * (len(last) // len(mark) // 2)
-    damage.judge(damage.file + torn, "a torn chunk of marks")
 
 
 # ---- a disk that fails
@@ -386,64 +367,56 @@ def with_room(size):
 
 def without_figures(errors):
     """What a node says on standard error, except that it can't write what stands beside its log either."""
-    names = r"(?:status\.prom|times|group\.json|keys\.json)"
-    return re.sub(rf"^payd: \S+/{names} can't be written\n", "", errors, flags=re.MULTILINE)
+    names = r"(?:status\.prom|times|group\.json|keys\.json)(?:\.new)?"
+    return re.sub(rf"^payd: \S+/{names} can't be written: [^\n]+\n", "", errors, flags=re.MULTILINE)
 
 
 LINES = b"".join(b"PAY %d 1 %d\n" % (order, order + 1) for order in range(12))
 ANSWERS = "".join(f"asked {order} seq {order}\n" for order in range(12))
 
 
-def asked_or_early(order, numbers):
-    """The answer to a line of a member that goes on without peers, where these are the ids that are kept."""
-    return f"asked {order} seq {numbers.index(order)}" if order in numbers else EARLY
-
-
-def test_a_full_disk_that_gets_room_again():
-    """With room for each number of bytes: what was answered is there again, and nothing is paid twice."""
-    with Folders(OPENING, running=[]) as group:
-        place = group.place.name
-        wanted = ANSWERS + export_text(0, OPENING, FRESH, [0, 0, 0, 0], OPENING)
-        shows(node_on(place, 0, "ample", LINES), 0, wanted, NEW, of="room for all")
-        whole = len(read_bytes(os.path.join(place, "ample", "log")))
-        for size in sorted({0, 1, 74, 75, 76, *range(80, whole + 40, 23)}):
-            made = os.path.join(place, f"room-{size}")
-            status, output, errors = node_on(place, 0, f"room-{size}", LINES, preexec_fn=with_room(size))
-            of = f"room for {size} of {whole} bytes: {(status, output, errors)}"
-            if size < HEADER_LEN:
-                same((status, output, errors), (4, "", DISK), of)
-            elif status != 0:
-                same((status, without_figures(errors)), (4, NEW + DISK + UNWRITTEN), of)
-                same(ANSWERS.startswith(output) and output[-1:] in ("", "\n"), True, of)
-            kept = Log(GENESIS, 0).member(read_bytes(os.path.join(made, "log")))[1] if size >= HEADER_LEN else []
-            same(kept[: output.count("\n")], list(range(min(output.count("\n"), 12))), f"{of}: what was answered")
-            # (asked for the other way round, so that what isn't kept gets another number)
-            back = b"".join(reversed(LINES.splitlines(keepends=True)))
-            answers = node_on(place, 0, f"room-{size}", back)[1].splitlines()[:12]
-            # (where there was no log, a new member is made, which needs not hear of its peers first)
-            numbers = list(range(11, -1, -1)) if size < HEADER_LEN else kept
-            due = [asked_or_early(order, numbers) for order in range(11, -1, -1)]
-            same(answers, due, f"{of}: with room again")
+def asked_again(orders, kept):
+    """The answers to lines of these ids, of which some are kept: the others have the numbers behind those."""
+    numbers = [*kept, *(order for order in orders if order not in kept)]
+    return [f"asked {order} seq {numbers.index(order)}" for order in orders]
 
 
 def test_nothing_leaves_that_is_not_kept():
     """A peer gets no frame of a payment for which there is no room, and no answer of it comes out."""
     with Folders(OPENING, running=[]) as group, Strangers(1, 0, group.ports[0]) as strangers:
         words = ["--genesis", "genesis", "--keys", "keys-0", "--ports", "ports", "--data", "full", "--new"]
-        child = subprocess.Popen(
-            [payd(), "node", *words], cwd=group.place.name, stdin=subprocess.PIPE, stdout=subprocess.PIPE,
-            stderr=subprocess.PIPE, preexec_fn=with_room(HEADER_LEN), bufsize=0,
-        )
+        child = running(group.place.name, words, preexec_fn=with_room(HEADER_LEN))
         try:
             until(lambda: is_there(group.ports[0]), True, of="whether the node listens")
             stream = strangers.dial()
             stream.sendall(strangers.want(0))
-            output, errors = child.communicate(b"PAY 7 1 30\n", timeout=SECONDS)
-            news = told(without_figures(told_plainly(errors.decode())))[1].splitlines()
-            same((child.returncode, output), (4, b""), f"a node without room: {errors}")
+            output, errors = fed(child, b"PAY 7 1 30\n", CLAIMS)
+            news = told(without_figures(told_plainly(errors)))[1].splitlines()
+            same((child.returncode, output), (4, ""), f"a node without room: {errors}")
             same([line for line in news if "peer" not in line], ["payd: log 1 Disk", "payd: engine 3 Write"], "it says")
             same(received(stream), None, "what a peer was told")
         finally:
+            child.kill()
+            child.wait()
+
+
+def test_a_disk_that_fails_ends_a_node_whoever_asks():
+    """Its input is open and gives nothing; a client's payment finds no room."""
+    with Folders(OPENING, running=[]) as group:
+        words = ["--genesis", "genesis", "--keys", "keys-0", "--ports", "ports", "--data", "full", "--new"]
+        child = running(group.place.name, words, preexec_fn=with_room(HEADER_LEN))
+        try:
+            said = met(child, CLAIMS)
+            client = Client(os.path.join(group.place.name, "full", "desk"))
+            client.write("PAY 7 1 30\n")
+            same(client.is_ended(), True, "what the client is answered")
+            child.wait(timeout=SECONDS)
+            errors = said + child.stderr.read()
+            news = told(without_figures(told_plainly(errors.decode())))[1].splitlines()
+            same((child.returncode, child.stdout.read()), (4, b""), f"a node without room: {errors}")
+            same([line for line in news if "peer" not in line], ["payd: log 1 Disk", "payd: engine 3 Write"], "it says")
+        finally:
+            child.stdin.close()
             child.kill()
             child.wait()
 
@@ -456,16 +429,23 @@ def is_there(port):
     return True
 
 
-def with_a_fault(library, name, least=3, **more):
+@contextlib.contextmanager
+def member_among_claimants(library):
+    """The words of a node in the library's folder, up to its own folder's name, while all its peers claim."""
+    ports = free_ports(4)
+    with Claimants(ports, [1, 2, 3]):
+        yield [*write_member(library.place.name, ports=ports), "--data"]
+
+
+def with_a_fault(library, words, name, least=3, **more):
     """A run for each call of this kind, each with one failed: what was answered is kept, once the node is started
     again, and each id is asked for once. (Some three lines are read at once.)"""
-    words = [*write_member(library.place.name), "--data"]
     text = export_text(0, OPENING, FRESH, [0, 0, 0, 0], OPENING)
     kinds = Counter()
     for place in range(1, 1000):
         folder = f"{name}-{place}-{more.get('placed_size', 0)}"
         given = {name: place, "read_size": 40, **more}
-        (status, output, errors), was_refused = library.run([*words, folder, "--new"], LINES, **given)
+        (status, output, errors), was_refused = library.run_among(CLAIMS, [*words, folder, "--new"], LINES, **given)
         if not was_refused:
             same((status, place > least), (0, True), f"{kinds} of {name}, and then {(status, output, errors)}")
             return
@@ -477,10 +457,10 @@ def with_a_fault(library, name, least=3, **more):
         same((status, errors) in ((4, DISK), (4, NEW + DISK + UNWRITTEN)) or was == at_end, True, of)
         same((ANSWERS + text).startswith(output) and output[-1:] in ("", "\n"), True, of)
         flags = new_words(library.place.name, ["--data", folder])
-        status, again, errors = library.run([*words, folder, *flags], LINES)[0]
-        answers = again.splitlines()[:12]
-        kept = list(range(sum(it.startswith("asked ") for it in answers)))
-        same((status, answers), (0, [asked_or_early(order, kept) for order in range(12)]), f"{of}, and then {again}")
+        log = os.path.join(library.place.name, folder, "log")
+        kept = [] if flags else Log(GENESIS, 0).member(read_bytes(log))[1]
+        status, again, errors = library.run_among(CLAIMS, [*words, folder, *flags], LINES)[0]
+        same((status, again.splitlines()[:12]), (0, asked_again(range(12), kept)), f"{of}, and then {again}")
         same(len(kept) >= min(output.count("\n"), 12), True, f"{of}, and then {again}")
         lost = more.get("placed_size", 0)
         may_say = {"", f"payd: log: {lost} bytes dropped, kept in log.dropped\n"} if lost else {""}
@@ -488,20 +468,20 @@ def with_a_fault(library, name, least=3, **more):
         library.refused[f"node --data {name}"] += 1
 
 
-def at_a_second_start(library, name, least=1):
+def at_a_second_start(library, words, name, least=1):
     """The same in a folder that a kill left, with a torn end: it has what was answered before, however its start fails;
     each start writes the log anew."""
-    words = [*write_member(library.place.name), "--data"]
     killed, torn = os.path.join(library.place.name, f"{name}-killed"), b"plog"
-    same(library.run([*words, killed, "--new"], LINES)[0][0], 0, "the first start")
+    same(library.run_among(CLAIMS, [*words, killed, "--new"], LINES)[0][0], 0, "the first start")
     os.remove(os.path.join(killed, "ended"))
     with open(os.path.join(killed, "log"), "ab") as log:
         log.write(torn)
-    wanted = ANSWERS + EARLY + "\n"
+    lines, wanted = LINES + b"PAY 12 1 1\n", ANSWERS + "asked 12 seq 12\n"
     for place in range(1, 1000):
         folder = f"{killed}-{place}"
         shutil.copytree(killed, folder)
-        was, was_refused = library.run([*words, folder], LINES + b"PAY 12 1 1\n", **{name: place, "read_size": 40})
+        given = {name: place, "read_size": 40}
+        was, was_refused = library.run_among(CLAIMS, [*words, folder], lines, **given)
         of = f"{name} {place} of a second start: {was}"
         if not was_refused:
             same((was[0], place > least), (0, True), of)
@@ -512,45 +492,60 @@ def at_a_second_start(library, name, least=1):
         whole = wanted + export_text(0, OPENING, FRESH, [0, 0, 0, 0], OPENING)
         same(whole.startswith(output) and output[-1:] in ("", "\n"), True, of)
         found = os.stat(os.path.join(folder, "log")).st_ino
-        status, again, errors = library.run([*words, folder], LINES + b"PAY 12 1 1\n")[0]
+        status, again, errors = library.run_among(CLAIMS, [*words, folder], lines)[0]
         same((status, again), (0, whole), f"{of}, and then {errors}")
         same(os.stat(os.path.join(folder, "log")).st_ino == found, False, f"{of}: whether the log is the old file")
         library.refused[f"node --data, a second start {name}"] += 1
 
 
 def test_each_sync_fails(library):
-    with_a_fault(library, "sync", least=9)
+    with member_among_claimants(library) as words:
+        with_a_fault(library, words, "sync", least=9)
 
 
 def test_each_renaming_of_a_log_fails(library):
-    with_a_fault(library, "rename", least=2)
+    with member_among_claimants(library) as words:
+        with_a_fault(library, words, "rename", least=2)
 
 
 def test_each_call_of_a_second_start_fails(library):
     """The writes of the copy too, by which it doesn't yet have the log's name."""
-    for name in ("placed", "filed", "rename"):
-        at_a_second_start(library, name)
-    # (no fewer syncs than a start and an end have)
-    at_a_second_start(library, "sync", least=6)
+    with member_among_claimants(library) as words:
+        for name in ("placed", "filed", "rename"):
+            at_a_second_start(library, words, name)
+        # (no fewer syncs than a start and an end have)
+        at_a_second_start(library, words, "sync", least=6)
 
 
 def test_each_write_of_a_log_fails(library):
-    for more in ({}, {"placed_size": 1}, {"placed_size": 50}):
-        with_a_fault(library, "placed", **more)
+    with member_among_claimants(library) as words:
+        for more in ({}, {"placed_size": 1}, {"placed_size": 50}):
+            with_a_fault(library, words, "placed", **more)
 
 
 def test_each_growth_of_a_kept_node_refused(library):
     """In a folder that is there, and in new ones: nothing but its answers, its export and what says that memory was
-    refused. Where that ended it, it has all that it answered once it is started again."""
-    words = [*write_member(library.place.name), "--data"]
+    refused. Where that ended it, it has all that it answered once it is started again. Where it got no thread to dial
+    enough peers, it pays nothing."""
+    with member_among_claimants(library) as words:
+        with_growths_refused(library, words)
+
+
+# How long a node may need to meet peers, in seconds, before it is taken for one that has no thread for them.
+WITHOUT_A_THREAD = 10
+
+
+def with_growths_refused(library, words):
     lines = LINES.splitlines(keepends=True)[:3]
     wanted = ANSWERS.splitlines()[:3]
-    same(library.run([*words, "kept", "--new"], b"".join(lines))[0][0], 0, "ample memory")
+    same(library.run_among(CLAIMS, [*words, "kept", "--new"], b"".join(lines))[0][0], 0, "ample memory")
     for of in ("kept", "new"):
         for place in range(1, 1000):
             folder = of if of == "kept" else f"new-{place}"
             flags = new_words(library.place.name, ["--data", folder])
-            (status, text, errors), was_refused = library.run([*words, folder, *flags], b"".join(lines), growth=place)
+            given = {"growth": place, "seconds": WITHOUT_A_THREAD}
+            was, was_refused = library.run_among(CLAIMS, [*words, folder, *flags], b"".join(lines), **given)
+            status, text, errors = was
             of_run = f"{folder}, growth {place}: {(status, text, errors)}"
             answers = text.splitlines()[:3]
             said = told(without_figures(errors))[1]
@@ -560,15 +555,17 @@ def test_each_growth_of_a_kept_node_refused(library):
             library.refused[f"node --data {of} growth"] += 1
             same(status == 3 or said == "", True, of_run)
             same(status == 0 or said == UNWRITTEN or REFUSED.fullmatch(said) is not None, True, of_run)
+            if of == "new" and answers == 3 * [EARLY]:
+                continue
             asked = [order for order, it in enumerate(answers) if it != "refused 0 Memory"]
             due = [wanted[order] if of == "kept" else f"asked {order} seq {seq}" for seq, order in enumerate(asked)]
             same([answers[order] for order in asked], due, of_run)
             if status == 0:
                 continue
             flags = new_words(library.place.name, ["--data", folder])
-            again = library.run([*words, folder, *flags], b"".join(reversed(lines)))[0]
+            again = library.run_among(CLAIMS, [*words, folder, *flags], b"".join(reversed(lines)))[0]
             same(again[0], 0, f"{of_run}, and then {again}")
-            told_again = dict(line.split()[1::2] for line in again[1].splitlines()[:3] if line != EARLY)
+            told_again = dict(line.split()[1::2] for line in again[1].splitlines()[:3])
             kept = [line.split()[1::2] for line in answers if line.startswith("asked")]
             same([told_again[order] for order, _ in kept], [seq for _, seq in kept], f"{of_run}, and then {again}")
 

@@ -8,9 +8,10 @@ import signal
 import subprocess
 import tempfile
 
-from nodes import PATIENCE, Group, Node, export_text, free_ports, started, until, write_json
 import pytest
-from runs import SECONDS, TOP, key_texts, payd, read_text, same, write_text
+
+from support.nodes import PATIENCE, Group, Node, export_text, free_ports, started, until, write_json
+from support.runs import SECONDS, TOP, key_texts, payd, read_text, same, write_text
 
 UNIT = "payd@.service"
 COMMAND = re.compile("^(ExecStart)=(.*)$", re.MULTILINE)
@@ -96,7 +97,7 @@ def test_commands_of_the_unit_run_a_node(folder):
     moved = unit().replace("/usr/local/bin/payd", payd()).replace("/var/lib/payd/NAME", folder)
     [command] = [shlex.split(words) for _, words in COMMAND.findall(moved)]
     told = re.search("^# payd (send --data .* FRONT)$", moved, re.MULTILINE)[1]
-    asks = [payd(), *shlex.split(told)]
+    asks = [os.path.join(TOP, "tools", "send"), *shlex.split(told)[1:]]
     for flags, said in ((["--new"], "new"), ([], "0 entries of 0 payments, started again")):
         errors = ended_after(asks, [*command, *flags], folder)
         same(started(errors), f"payd: log: {said}\n", f"what the node says in {errors!r}")

@@ -3,9 +3,9 @@
 import socket
 from contextlib import ExitStack
 
-from nodes import Group
-from peers import connected, has_ended, received
-from runs import SECONDS, same
+from support.nodes import Group
+from support.peers import claims, connected, has_ended, received
+from support.runs import SECONDS, same
 from test_vector import vectors
 
 
@@ -42,6 +42,7 @@ class Session:
 
     def dialed(self, peer):
         self.begin(self.listeners[peer].accept()[0])
+        claims(self.stream, peer, self.own)
 
     def dials(self, _peer):
         # a node answers its desk once it listens
@@ -70,7 +71,7 @@ class Session:
 
 
 def test_sessions_are_had():
-    for row in vectors("sessions", 18):
+    for row in vectors("sessions", 21):
         with ExitStack() as stack:
             session = Session(row, stack)
             for step in row["steps"]:

@@ -4,11 +4,11 @@ import glob
 import os
 import subprocess
 
-from nodes import until
-from payers import pay
-from restarts import Folders
-from runs import SECONDS, TOP, same
-from shops import Shop, shop_is_killed
+from support.nodes import until
+from support.payers import pay
+from support.restarts import Folders
+from support.runs import SECONDS, TOP, same
+from support.shops import Shop, shop_is_killed
 
 PAY_ORDER = os.path.join(TOP, "examples", "pay-order")
 
@@ -57,6 +57,35 @@ def test_shop_takes_orders_from_notes_alone():
             same(shop.ask("show 3"), "order 3 open", "that of nobody's note")
             group.nodes[3].ask("NOTE 9 seq 0 order 3")
             until(lambda: shop.ask("show 3"), "order 3 paid seq 0 kept", of="the order of another customer")
+        finally:
+            shop.end()
+
+
+def test_shop_gives_back_to_each_account_up_to_a_bound():
+    """Payments of nothing that was ordered take no more of the shop's values; what is held goes back in one."""
+    with Folders([100, 0, 0, 50]) as group:
+        shop, node = Shop(group.place.name, "2"), group.nodes[1]
+        try:
+            same([shop.ask(f"order {it} 30") for it in (0, 3)], ["order 1", "order 2"], "the orders")
+            for seq in range(5):
+                group.pay(0, seq, 1, seq + 1, seq)
+                same(shop.ask(f"paid 1 {seq}"), f"noted 1 {seq}", "a wrong payment")
+                held = "".join(f" seq {it} held" for it in range(2, seq + 1))
+                backs = "".join(f" seq {it} back {it}" for it in range(min(seq + 1, 2)))
+                until(lambda: shop.ask("show 1"), f"order 1 open{backs}{held}", of="what became of them")
+            same(node.front()[1], 2, "values that the shop used")
+            group.pay(3, 0, 1, 7, 0)
+            shop.ask("paid 2 0")
+            until(lambda: shop.ask("show 2"), "order 2 open seq 0 back 2", of="that of another account")
+            shop.end()
+            same(shop.ask("release 0"), "released 0 3", "what the owner gives back, after a restart")
+            backs = " seq 0 back 0 seq 1 back 1 seq 2 back 3 seq 3 back 3 seq 4 back 3"
+            until(lambda: shop.ask("show 1"), f"order 1 open{backs}", of="all five")
+            until(lambda: node.front()[1], 4, of="values that the shop used then")
+            lines = [line for line in node.statement(1) if line.startswith("out ")]
+            same(lines, ["out 0 to 0 1", "out 1 to 0 2", "out 2 to 3 7", "out 3 to 0 12"], "what it gave back")
+            same(shop.ask("release 0"), "released 0 0", "nothing is held any more")
+            group.settle([5, 4, 0, 1], [100, 0, 0, 50])
         finally:
             shop.end()
 

@@ -6,11 +6,12 @@ import os
 import re
 import subprocess
 
-import group_model
 import pytest
-from audits import FORKED, FRESH, PAID
-from nodes import write_json
-from runs import SECONDS, TOP, call, read_bytes, read_text, same
+
+from models import group_model
+from models.audits import FORKED, FRESH, PAID
+from support.nodes import write_json
+from support.runs import SECONDS, TOP, call, read_bytes, read_text, same, write_text
 
 NAMES = "Ann", "Bob", "Cy", "Dee"
 EXPORTS = {"paid": PAID, "fresh": FRESH, "forked": FORKED, "other": {**PAID, "member": 3}}
@@ -53,7 +54,7 @@ def part(folder, name):
 
 
 def message(folder, name, given):
-    """What a signature is over, as docs/COMMANDS.md has it."""
+    """What a signature is over, as docs/formats.md has it."""
     lines = f"payd export 1\ngroup {given['group']}\nmember {given['member']}\ntime {given['time']}\n"
     return lines.encode() + read_bytes(os.path.join(folder, name))
 
@@ -139,6 +140,29 @@ def test_nobody_signs_what_is_not_its_own(folder):
     signs(folder, 0, "paid")
     change(folder, "paid", group=digest)
     same(audited(folder, "paid", group="bare"), (1, f"paid: {none}\n", ""), "an audit without keys")
+
+
+def test_a_signature_is_a_new_file(folder):
+    """In place of a link, whose file stays; and what isn't written whole leaves the one before."""
+    make(folder, "group")
+    write_text(os.path.join(folder, "mine"), "mine")
+    place = os.path.join(folder, "paid.sig")
+    os.symlink("mine", place)
+    same(signs(folder, 0, "paid"), (0, "", ""), "a signature where a link stands")
+    same((read_text(os.path.join(folder, "mine")), os.path.islink(place)), ("mine", False), "what the link led to")
+    line = "paid: member 0 Ann signed it\n"
+    same(audited(folder, "paid"), (0, f"{line}clean\n", ""), "its audit")
+    was, files = read_text(place), sorted(os.listdir(folder))
+    words = ["--group", "group", "--secret", "0.secret", "paid"]
+    full = ["sh", "-c", 'ulimit -f 0; trap "" XFSZ; exec "$@"', "sh"]
+    done = call([*full, os.path.join(TOP, "tools", "sign"), *words], folder=folder)
+    same(done, (1, "", "payd sign: paid.sig: File too large\n"), "where nothing can be written")
+    same((read_text(place), sorted(os.listdir(folder))), (was, files), "what stands there then")
+    os.unlink(place)
+    os.mkdir(place)
+    files = sorted(os.listdir(folder))
+    same(signs(folder, 0, "paid"), (1, "", "payd sign: paid.sig: Is a directory\n"), "where a folder stands")
+    same(sorted(os.listdir(folder)), files, "what is left of it")
 
 
 # ---- openssl

@@ -1,11 +1,10 @@
 """Black-box tests of scripts that `payd sim` plays."""
 
 import os
-import random
 
-from model import MOST_MEMBERS, play
-from runs import TOP, read_bytes, read_text, run, run_byte_by_byte, same, shows
-from scripts import FOUR_ONE_LIAR, LONG, WORKED, script_of, world_of
+from models.scripts import FOUR_ONE_LIAR, LONG, WORKED, script_of, world_of
+from payd_tools.model import MOST_MEMBERS, play
+from support.runs import TOP, read_bytes, read_text, run, same, shows
 
 LIMIT = 1_000_000
 
@@ -31,7 +30,7 @@ def test_model_plays_worked_scripts():
 
 
 def test_examples_of_scripts():
-    for name, status in (("honest-day", 0), ("split-votes", 1), ("circular-debts", 0)):
+    for name, status in (("honest-day", 0), ("split-votes", 1), ("circular-debts", 0), ("double-spend", 0)):
         lines = read_bytes(os.path.join(TOP, "examples", f"{name}.txt"))
         text = read_text(os.path.join(TOP, "examples", f"{name}-answers.txt"))
         shows(run(["sim"], lines), status, text, of=name)
@@ -77,28 +76,6 @@ def test_thresholds_of_each_size():
             shows(run(["sim"], script_of(world, commands)), 0, text_of(lines), of=f"{members} members, {faults} liars")
 
 
-def test_script_in_pieces():
-    script = script_of(FOUR_ONE_LIAR, ["ask 0 1 30", "", "all", "show"])
-    wanted = run(["sim"], script)
-    same(run_byte_by_byte(script, ["sim"]), wanted, "byte by byte")
-    same(run(["sim"], script[:-1]), wanted, "the last line without its end")
-
-
-def test_script_cut_at_every_place():
-    script = script_of(FOUR_ONE_LIAR, ["ask 0 1 30", "bring 0 1 0", "raw 1 00"])
-    for size in range(len(script)):
-        sim(script[:size], of=f"the first {size} bytes")
-
-
-def test_script_with_one_byte_changed():
-    script = script_of(FOUR_ONE_LIAR, ["ask 0 1 30", "bring 0 1 0", "all", "show"])
-    seeded = random.Random(17)
-    for place in range(0, len(script), 2):
-        changed = bytearray(script)
-        changed[place] = seeded.choice(b" 0129\n\r-{}[],:\"ask\x00\xff")
-        sim(bytes(changed), of=f"byte {place} is {changed[place]}")
-
-
 def test_lines_of_the_bound():
     # JSON takes blanks after the group, so that its line can be of any length
     for size in (4095, 4096, 4097, 8192, 70000):
@@ -128,9 +105,3 @@ def test_all_that_meets_the_limit():
     script = script_of(FOUR_ONE_LIAR, ["ask 0 1 30", *["raw 9 -"] * (LIMIT - 15), "all"])
     text = text_of(["asked 0 seq 0", *["ignored"] * (LIMIT - 15), "brought 14", "converged"])
     shows(run(["sim"], script), 0, text, of="just as many frames")
-
-
-def test_words_of_scripts():
-    for words in (["sim", "fly"], ["sim", "--genesis", "g"], ["sims"]):
-        status, output, errors = run(words)
-        same((status, output, errors != ""), (2, "", True), f"{words}")

@@ -3,10 +3,10 @@
 import contextlib
 import random
 
-import audits
-from audits import FORKED, PAID, TWO_ENTRIES, changed, statement
-from nodes import Group
-from runs import same, shows, with_files
+from models import audits
+from models.audits import FORKED, PAID, TWO_ENTRIES, statement
+from support.nodes import Group
+from support.runs import same, shows, with_files
 
 
 def statement_of(given, *words):
@@ -42,12 +42,6 @@ def test_random_statements_as_the_model_has_them():
         for given in audits.random_exports(seeded):
             statements = [statement(given, account) for account in range(given["members"])]
             statements_agree(given, statements, f"turn {turn}, {given}")
-
-
-def test_statements_rest_on_lists_alone():
-    """A front and balances that an audit names make no difference."""
-    for members in ({"front": [0, 0, 0, 0]}, {"front": 4 * [2**64 - 1]}, {"balances": 4 * [2**64 - 1]}, {"member": 2}):
-        shows(statement_of(changed(members), "3"), 0, "out 0 to 0 5\nend 3 balance 45\n", of=f"{members}")
 
 
 @contextlib.contextmanager

@@ -7,20 +7,21 @@ import shutil
 import subprocess
 
 import pytest
-from runs import SECONDS, TOP, read_text, same
+
+from support.runs import SECONDS, TOP, read_text, same
 
 OF_TESTS = (f"tests/{it}" for it in ("fallback", "models", "mutants", "support"))
-FOLDERS = (".", "bench", "examples", "tests", *OF_TESTS, "tools", "vectors")
+FOLDERS = (".", "bench", "examples", "tests", *OF_TESTS, "tools", "tools/payd_tools", "tools/payd_tools/repository")
 LONGEST = 120
 LINTERS = "ruff", "pyflakes3", "pyflakes"
 
 # The oldest Python that the program's scripts run with; of what it doesn't have, what is likely to be called; and the
-# scripts, with what they import of tests/.
+# scripts.
 OLDEST = (3, 8)
 NEWER = re.compile(
     r"\.(?:removeprefix|removesuffix|randbytes|waitstatus_to_exitcode)\(|\bfunctools\.cache\b|, strict="
 )
-OF_PROGRAM = ("examples/", "payd-prove", "tests/models/", "tests/support/runs.py", "tools/")
+OF_PROGRAM = ("examples/", "tools/")
 
 
 def is_python(path):
@@ -31,7 +32,8 @@ def is_python(path):
 def python_files():
     for folder in FOLDERS:
         paths = (os.path.join(TOP, folder, it) for it in sorted(os.listdir(os.path.join(TOP, folder))))
-        yield from (os.path.normpath(it) for it in paths if os.path.isfile(it) and is_python(it))
+        files = (it for it in paths if os.path.isfile(it) and not os.path.islink(it))
+        yield from (os.path.normpath(it) for it in files if is_python(it))
 
 
 def faults_of(path):
@@ -64,7 +66,7 @@ def test_linter_finds_nothing():
     """By ruff with the rules of pyproject.toml, else by pyflakes alone."""
     linter = next(filter(shutil.which, LINTERS))
     words = [linter, "check", "--no-cache"] if linter == "ruff" else [linter]
-    done = subprocess.run([*words, *python_files()], cwd=TOP, capture_output=True, text=True, timeout=SECONDS)
+    done = subprocess.run([*words, *python_files()], cwd=TOP, capture_output=True, text=True, timeout=4 * SECONDS)
     same(done.returncode, 0, f"{linter}: {done.stdout}{done.stderr}")
 
 
@@ -87,6 +89,25 @@ def long_lines():
 
 def test_lines_of_rattle_keep_their_length():
     same(sorted(long_lines()), [], f"lines longer than {LONGEST_OF_RATTLE}")
+
+
+# What a doc comment doesn't begin with: words that lean on what stands outside of it.
+LEANING = re.compile(r"//[/!] (?:So many|The same|Whether|It|Its|They|One|Those|That|Such|As|Of|Where|Whose|Behind)\b")
+
+
+def leaning_comments():
+    """The doc comments of src/ that begin with such a word, by their places."""
+    for folder, _, files in os.walk(os.path.join(TOP, "crates")):
+        place = os.path.relpath(folder, TOP)
+        for file in sorted(files) if "/src" in place and "/pay_library_tests/" not in place else ():
+            lines = [it.strip() for it in read_text(os.path.join(folder, file)).splitlines()]
+            for number, (before, line) in enumerate(zip(["", *lines], lines), 1):
+                if LEANING.match(line) and not before.startswith(line[:3]):
+                    yield f"{place}/{file}:{number}"
+
+
+def test_doc_comments_stand_alone():
+    same(list(leaning_comments()), [], "doc comments that begin with a word that leans on another")
 
 
 # The most parameters of a definition in specs/: one that has more relates things that want a name of their own.
@@ -132,3 +153,40 @@ def definitions():
 def test_definitions_have_few_parameters():
     more = {name: count for name, count in definitions() if count > MOST_PARAMETERS}
     same(more, {}, f"definitions with more than {MOST_PARAMETERS} parameters")
+
+
+# ---- the package
+
+
+def package_files():
+    return [it for it in python_files() if os.path.relpath(it, TOP).startswith("tools/payd_tools/")]
+
+
+def without_types(path):
+    """The functions of a file of which a parameter or the result has no type."""
+    for function in ast.walk(ast.parse(read_text(path))):
+        if isinstance(function, ast.FunctionDef):
+            given = function.args
+            named = [*given.posonlyargs, *given.args, *given.kwonlyargs, given.vararg, given.kwarg]
+            typed = [it.annotation for it in named if it is not None and it.arg not in ("self", "cls")]
+            if None in (function.returns, *typed):
+                yield f"{os.path.relpath(path, TOP)}: {function.name}"
+
+
+def test_functions_of_the_package_have_types():
+    files = package_files()
+    same(len(files) > 40, True, f"files of the package: {len(files)}")
+    same([it for path in files for it in without_types(path)], [], "functions without types")
+
+
+def test_package_needs_nothing_of_the_tests():
+    others = {name for it in ("support", "models", "mutants") for name in (it, *modules_in(f"tests/{it}"))}
+    for path in package_files():
+        imports = [it for it in ast.walk(ast.parse(read_text(path))) if isinstance(it, (ast.Import, ast.ImportFrom))]
+        names = {it.module or "" for it in imports if isinstance(it, ast.ImportFrom)}
+        names |= {name.name for it in imports if isinstance(it, ast.Import) for name in it.names}
+        same(sorted(it for it in names if it.split(".")[0] in others), [], f"what {path} imports")
+
+
+def modules_in(folder):
+    return [it[:-3] for it in os.listdir(os.path.join(TOP, folder)) if it.endswith(".py") and it != "payd_tools.py"]

@@ -7,11 +7,10 @@ import stat
 import tempfile
 import time
 
-from nodes import until
-from restarts import Folders
-from runs import read_text, same, write_text
-
-import times
+from payd_tools import times
+from support.nodes import until
+from support.restarts import Folders
+from support.runs import read_text, same, write_text
 
 HEAD = "2026-11-29T13:20:"
 
@@ -79,6 +78,66 @@ def test_cut_lines_make_times_later_and_never_earlier():
 def test_clock_that_goes_back_is_not_earlier():
     found = read(f"{HEAD}05Z 1\n{HEAD}02Z 2\n{HEAD}05Z 3\n{HEAD}06Z 4\n")
     same([found.when(0, it) for it in range(4)], [moment(5), moment(5), moment(5), moment(6)], "the times")
+
+
+def midnight(day):
+    return "T".join((day, "00:00:00Z"))
+
+
+def on(*days):
+    """The times of a file with a line on each of these days, by which one entry more had settled."""
+    return read("".join(f"{midnight(day)} {count}\n" for count, day in enumerate(days, 1)))
+
+
+def dates(found, count):
+    """Of each entry the day by which it had settled, with a question mark where that is unsure."""
+    places = [(0, it) for it in range(count)]
+    return [f"{found.when(*it):%Y-%m-%d}{'' if found.is_sure(*it) else '?'}" for it in places]
+
+
+def test_wrong_clock_heals():
+    """One start ten years ahead: what was dated then is by the next right line, and unsure."""
+    found = on("2026-11-28", "2026-11-29", "2036-11-29", "2036-11-30", "2026-11-30", "2026-12-01")
+    same(dates(found, 6), ["2026-11-28", "2026-11-29", "2026-11-30?", "2026-11-30?", "2026-11-30", "2026-12-01"], "it")
+    found = on("2026-11-28", "2036-11-29")
+    same(dates(found, 2), ["2026-11-28", "2036-11-29"], "as long as nothing tells")
+    # ten years later the lines between are many
+    found = on("2026-11-28", "2036-11-29", "2026-11-29", "2030-01-01", "2036-12-01")
+    wanted = ["2026-11-28", "2026-11-29?", "2026-11-29", "2030-01-01", "2036-12-01"]
+    same(dates(found, 5), wanted, "when that day has come")
+
+
+def test_clock_that_was_behind_for_a_while_heals():
+    """As that of a machine without a battery before it has asked for the time."""
+    found = on("2026-11-27", "2026-11-28", "2026-11-29", "2000-01-01", "2026-11-30", "2026-12-01")
+    wanted = ["2026-11-27", "2026-11-28", "2026-11-29", "2026-11-30?", "2026-11-30", "2026-12-01"]
+    same(dates(found, 6), wanted, "the lines between are unsure")
+    found = on("2026-11-27", "2026-11-28", "2000-01-01", "2000-01-02")
+    same(dates(found, 4), ["2000-01-01?", "2000-01-01?", "2000-01-01", "2000-01-02"], "until the clock is right again")
+
+
+def test_clock_far_from_the_last_line_is_doubtful():
+    now = datetime.datetime(2026, 11, 30, tzinfo=datetime.timezone.utc)
+    for day in ("2026-11-29", "2026-01-01", "2026-11-30"):
+        same(on(day).doubt(now), None, day)
+    for day, far in (("2036-11-30", "3653 days behind"), ("2016-11-30", "3652 days ahead of")):
+        said = f"the clock is {far} the last time in the folder, {midnight(day)}: is it right?"
+        same(on(day).doubt(now), said, day)
+    same(read("").doubt(now), None, "no line at all")
+
+
+def test_start_by_a_clock_far_from_the_line_before_is_doubtful():
+    """Of which the node writes a line, so that the last line has that clock's time: for a day."""
+    now = datetime.datetime(2026, 11, 30, 12, tzinfo=datetime.timezone.utc)
+    for days, said in (
+        (["2016-11-30", "2026-11-30"], "the clock went 3652 days ahead of 2016-11-30T00:00:00Z: is it right?"),
+        (["2036-11-30", "2026-11-30"], "the clock went 3653 days back from 2036-11-30T00:00:00Z: is it right?"),
+        (["2016-11-30", "2026-11-29"], None),
+        (["2036-11-30", "2026-11-29"], None),
+        (["2025-12-01", "2026-11-30"], None),
+        (["2026-11-28", "2026-11-29", "2000-01-01", "2026-11-30"], None),
+    ):
+        same(on(*days).doubt(now), said, f"{days}")
 
 
 def test_damaged_lines_say_nothing():
@@ -218,7 +277,8 @@ def test_times_that_fail_change_no_payment():
         group.pay(0, 1, 1, 30, 0)
         group.pay(1, 1, 2, 10, 0)
         group.settle([1, 1, 0, 0], [70, 20, 10, 50])
-        said = [f"payd: data-{own}/times can't be written\n" for own in (0, 1)]
+        reasons = enumerate(("it is a folder", "the disk is full"))
+        said = [f"payd: data-{own}/times can't be written: {why}\n" for own, why in reasons]
         for own in (0, 1):
             node, line = group.nodes[own], said[own].encode()
             until(lambda node=node, line=line: (node.news(), line in node.said)[1], True, of="what is said")

@@ -6,29 +6,28 @@ import glob
 import json
 import os
 import re
-import shlex
 import shutil
 import socket
 import stat
 import subprocess
 import tempfile
 
-import group_model
-from nodes import free_ports, until
 import pytest
-from runs import SECONDS, same
+
+from models import group_model
+from support.nodes import free_ports, until
+from support.runs import SECONDS, same
+from support.units import command_in
 from test_group import does, put, read, tool
 
 MEMBERS = 4
 NAMES, HOSTS = ["Ann", "Bob", "Cy", "Di"], ["a.example", "b.example", "c.example", "127.0.0.4"]
 PORTS = [11000, 11001, 11002, 11003]
-# Public keys for WireGuard, as `wg pubkey` writes them.
-FOR_WIREGUARD = [f"{'abcd'[own] * 42}A=" for own in range(MEMBERS)]
 
 
 @contextlib.contextmanager
 def set_up(ports=PORTS, hosts=HOSTS):
-    """A folder with a group's file that has hosts, a file of hosts for WireGuard, and each member's keys."""
+    """A folder with a group's file that has hosts, and each member's secret and keys."""
     members = len(ports)
     with tempfile.TemporaryDirectory() as folder:
         public = [does(folder, "new", f"{own}.secret").strip() for own in range(members)]
@@ -37,22 +36,19 @@ def set_up(ports=PORTS, hosts=HOSTS):
         put(folder, "group.json", does(folder, "make", *words, *public))
         for own in range(members):
             does(folder, "keys", "group.json", f"{own}.secret", f"keys-{own}")
-        put(folder, "hosts", "".join(f"{host} {key}\n" for host, key in zip(hosts, FOR_WIREGUARD)))
         yield folder
 
 
 def tunnels(folder, kind, own, *words):
     """The files of a member, by their names."""
-    more = {"ssh": [], "wireguard": ["--hosts", "hosts"], "stunnel": ["--keys", f"keys-{own}"]}[kind]
-    does(folder, "tunnels", "--as", kind, *more, *words, "group.json", f"{own}", f"{kind}-{own}")
+    does(folder, "tunnels", "--as", kind, *words, "group.json", f"{own}.secret", f"{kind}-{own}")
     made = os.path.join(folder, f"{kind}-{own}")
     return {name: read(made, name) for name in sorted(os.listdir(made))}
 
 
 def commands(files):
     """Those that the units start, by the units' names."""
-    units = {name: text for name, text in files.items() if name.endswith(".service")}
-    return {name: shlex.split(re.search("^ExecStart=(.*)$", text, re.MULTILINE)[1]) for name, text in units.items()}
+    return {name: command_in(text) for name, text in files.items() if name.endswith(".service")}
 
 
 # ---- ssh
@@ -76,6 +72,10 @@ def test_ssh_joins_each_two_members_once():
                 wanted = {
                     "hostname": HOSTS[peer],
                     "port": "22",
+                    "user": "payd-tunnel",
+                    "identityfile": f"{os.path.realpath(folder)}/ssh-{own}/to-{peer}.key",
+                    "identitiesonly": "yes",
+                    "forwardagent": "no",
                     "localforward": f"[127.0.0.1]:{PORTS[peer]} [127.0.0.1]:{PORTS[peer]}",
                     "remoteforward": f"[127.0.0.1]:{PORTS[own]} [127.0.0.1]:{PORTS[own]}",
                     "exitonforwardfailure": "yes",
@@ -87,16 +87,6 @@ def test_ssh_joins_each_two_members_once():
                 joined.append((own, peer))
         pairs = [(own, peer) for own in range(MEMBERS) for peer in range(own + 1, MEMBERS)]
         same(joined, pairs, "who dials whom")
-
-
-def test_an_ssh_server_lets_peers_open_their_ports_alone():
-    with set_up() as folder:
-        files = [tunnels(folder, "ssh", own, "--port", "2222") for own in range(MEMBERS)]
-        same(["sshd.conf" in it for it in files], [False, True, True, True], "whom others dial")
-        lines = [it.strip() for it in files[2]["sshd.conf"].splitlines()]
-        for line in ("PermitOpen 127.0.0.1:11002", "PermitListen 127.0.0.1:11000 127.0.0.1:11001", "PermitTTY no"):
-            same(line in lines, True, line)
-        same("-p 2222" in files[0]["payd-tunnel-3.service"], True, "another port of the servers")
 
 
 # ---- WireGuard
@@ -117,19 +107,6 @@ def test_wireguard_has_a_network_of_the_group():
                     out = started[f"payd-tunnel-{peer}.service"]
                     same(out[1].split(",")[:2], [f"TCP4-LISTEN:{PORTS[peer]}", "bind=127.0.0.1"], "where it goes out")
                     same(out[2].split(",")[0], f"TCP6:{addresses[peer]}:{PORTS[peer]}", "where that leads")
-
-
-@pytest.mark.needs("wg-quick")
-def test_wireguard_takes_its_configuration():
-    with set_up() as folder:
-        tunnels(folder, "wireguard", 1, "--port", "5000")
-        words = ["wg-quick", "strip", os.path.join(folder, "wireguard-1", "payd.conf")]
-        done = subprocess.run(words, capture_output=True, text=True, timeout=SECONDS)
-        same((done.returncode, done.stderr), (0, ""), "wg-quick strip")
-        peers = [(FOR_WIREGUARD[it], f"{HOSTS[it]}:5000") for it in (0, 2, 3)]
-        keys, ends = (re.findall(f"^{it} = (.*)$", done.stdout, re.MULTILINE) for it in ("PublicKey", "Endpoint"))
-        same(list(zip(keys, ends)), peers, "the peers of member 1")
-        same(re.findall("^ListenPort = (.*)$", done.stdout, re.MULTILINE), ["5000"], "its port")
 
 
 # ---- stunnel
@@ -173,6 +150,7 @@ def stunnels(folder, ports, way_in):
         for own, here in enumerate(("127.0.0.1", "127.0.0.2")):
             made = os.path.join(folder, f"stunnel-{own}")
             text = read(made, "stunnel.conf").replace("accept = 127.0.0.1", f"accept = {here}")
+            text = text.replace("/run/credentials/payd-tunnels.service", made)
             text = text.replace(f"accept = {way_in}", f"accept = {here}:{way_in}")
             text = text.replace(f"connect = 127.0.0.1:{ports[own]}", f"connect = {here}:{ports[own]}")
             put(made, "moved.conf", text)
@@ -243,41 +221,34 @@ def test_no_tunnels():
         put(folder, "short", "a\nb\nc\n")
         put(folder, "wrong", "a\nb\nc\n-oProxyCommand=x\n")
         put(folder, "bare.json", json.dumps({it: value for it, value in group.items() if it != "hosts"}))
-        put(folder, "other.json", json.dumps({**group, "group": "0" * 64}))
-        taken, wrong = ["--as", "ssh", "group.json", "0", "taken"], "isn't a host, or one with its key for WireGuard"
+        does(folder, "new", "other.secret")
+        wrong = "hosts: that of member 3 isn't a host"
+        taken = ["--as", "ssh", "group.json", "0.secret", "taken"]
         does(folder, "tunnels", *taken)
         for words, why in (
             (taken, "taken: File exists"),
-            (["--as", "ssh", "group.json", "4", "new"], "there is no member 4"),
             (
-                ["--as", "ssh", "bare.json", "0", "new"],
+                ["--as", "ssh", "group.json", "other.secret", "new"],
+                "other.secret: the secret's public key is none of the group's",
+            ),
+            (["--as", "ssh", "group.json", "group.json", "new"], "group.json: it is no secret that 'new' wrote"),
+            (
+                ["--as", "ssh", "bare.json", "0.secret", "new"],
                 "the group's file has no hosts: --hosts takes a file with that of a member a line",
             ),
             (
-                ["--as", "ssh", "--hosts", "short", "group.json", "0", "new"],
+                ["--as", "ssh", "--hosts", "short", "group.json", "0.secret", "new"],
                 "hosts has to be a list with one for each of the 4 members",
             ),
-            (["--as", "ssh", "--hosts", "wrong", "group.json", "0", "new"], f"hosts: that of member 3 {wrong}"),
+            (["--as", "ssh", "--hosts", "wrong", "group.json", "0.secret", "new"], wrong),
             (
-                ["--as", "wireguard", "group.json", "0", "new"],
-                "the host of member 1 Bob needs its public key for WireGuard behind a blank",
-            ),
-            (["--as", "stunnel", "group.json", "0", "new"], "stunnel needs --keys, this member's file of keys"),
-            (
-                ["--as", "stunnel", "--keys", "keys-1", "group.json", "0", "new"],
-                "keys-1: its keys are those of member 1",
-            ),
-            (
-                ["--as", "stunnel", "--keys", "keys-0", "other.json", "0", "new"],
-                "keys-0: it has no keys of this group",
-            ),
-            (
-                ["--as", "stunnel", "--keys", "keys-0", "group.json", "0", "a folder"],
-                "{folder}/a folder: a folder for stunnel has ASCII letters, digits and ._- in its path alone",
+                ["--as", "stunnel", "group.json", "0.secret", "a folder"],
+                "{folder}/a folder: a folder of tunnels has ASCII letters, digits and ._- in its path alone",
             ),
         ):
             why = why.replace("{folder}", os.path.realpath(folder))
             same(tool(folder, "tunnels", *words), (1, "", f"payd group: {why}\n"), f"{words}")
         same(os.path.exists(os.path.join(folder, "new")), False, "whether a folder was made")
-        same(tool(folder, "tunnels", "--as", "carrier-pigeon", "group.json", "0", "new")[0], 2, "another kind")
-        same(tool(folder, "tunnels", "--as", "ssh", "--port", "65536", "group.json", "0", "new")[0], 2, "no port")
+        more = "group.json", "0.secret", "new"
+        same(tool(folder, "tunnels", "--as", "carrier-pigeon", *more)[0], 2, "another kind")
+        same(tool(folder, "tunnels", "--as", "ssh", "--port", "65536", *more)[0], 2, "no port")

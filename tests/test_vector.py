@@ -5,11 +5,10 @@ import importlib.util
 import json
 import os
 
-from runs import TOP, key_texts, of_file, run, same, with_files
+from payd_tools import groups
+from support.runs import TOP, key_texts, of_file, run, same, with_files
 
-import groups
-
-TOOL = os.path.join(TOP, "vectors", "make")
+TOOL = os.path.join(TOP, "tests", "make-vectors")
 
 
 def vectors(name, least=100):
@@ -68,4 +67,4 @@ def test_vectors_are_those_of_the_models():
     loader.exec_module(tool)
     for name in tool.VECTORS:
         with open(os.path.join(TOP, "vectors", f"{name}.json"), encoding="ascii") as file:
-            same(file.read() == tool.text_of(name), True, f"vectors/{name}.json is what vectors/make writes")
+            same(file.read() == tool.text_of(name), True, f"vectors/{name}.json is what tests/make-vectors writes")

@@ -4,14 +4,13 @@ import os
 import shutil
 import subprocess
 
-from nodes import write_json
-from runs import EXAMPLE_GENESIS, GENESIS, SECONDS, TOP, example_keys, read_text, same, shows
+from payd_tools.groups import genesis_digest
+from payd_tools.repository import building
+from support.nodes import write_json
+from support.runs import EXAMPLE_GENESIS, GENESIS, SECONDS, TOP, example_keys, read_text, same, shows
 
-import building
-from groups import genesis_digest
-
-WORDS = "pay", "status", "follow", "desk-page", "move-out", "group", "sign", "audit-signed", "evidence", "books"
-WORDS += "report", "draw"
+WORDS = "send", "pay", "status", "follow", "desk-page", "move-out", "group", "sign", "audit-signed", "evidence"
+WORDS += "books", "report", "draw", "demo"
 
 
 def test_payd_runs_its_tools(repository):
@@ -23,6 +22,7 @@ def test_payd_runs_its_tools(repository):
     repository.write("tools/draw", "#!/bin/sh\necho $#\nexec cat\n", 0o755)
     shows(repository.run("payd", "draw", "a b", "", stream=b"a\nb"), 0, "2\na\nb", of="a tool's words and input")
     same(repository.calls(), [], "what was compiled for that")
+    repository.run("payd")
     words = read_text(os.path.join(TOP, "tools", "words"))
     same([line.split()[0] for line in words.splitlines() if line.startswith("  ")], [*WORDS], "the words")
     for word in ("--help", "-h"):
@@ -68,7 +68,7 @@ def test_names_forge_no_line(folder):
         (["evidence", "--data", NAME], "payd evidence: a\\nclean"),
         (["evidence", "--check", NAME, *OF_EVIDENCE], "payd evidence: a\\nclean"),
         (["evidence", "--check", "a\nfrom", *OF_EVIDENCE], "a\\nfrom: frame 0: it is no vote"),
-        (["group", "tunnels", "--as", "ssh", EXAMPLE_GENESIS, "0", NAME], "payd group: "),
+        (["group", "tunnels", "--as", "ssh", EXAMPLE_GENESIS, NAME, NAME], "payd group: "),
     ):
         tool = os.path.join(TOP, "tools", words[0])
         done = subprocess.run([tool, *words[1:]], cwd=folder, capture_output=True, timeout=SECONDS)

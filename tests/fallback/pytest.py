@@ -9,6 +9,7 @@ import multiprocessing
 import os
 import re
 import sys
+import time
 import traceback
 from collections import Counter
 from types import SimpleNamespace
@@ -32,8 +33,14 @@ def begin(numbers, count):
 
 
 def outcome_of(job):
-    """What came of a test, and what is said of it."""
-    name, said = "::".join(job), io.StringIO()
+    """What came of a test, what is said of it, its name, and how many seconds it took."""
+    begun, name = time.monotonic(), "::".join(job)
+    outcome, line = run(job, name)
+    return outcome, line, name, time.monotonic() - begun
+
+
+def run(job, name):
+    said = io.StringIO()
     try:
         with contextlib.ExitStack() as given, contextlib.redirect_stdout(said):
             conftest, module = sys.modules["conftest"], importlib.import_module(job[0])
@@ -57,8 +64,12 @@ if __name__ == "__main__":
     jobs = [it for it in jobs if asked.get("-k", "") in "::".join(it)]
     processes = int(asked["-n"])
     with multiprocessing.Pool(processes, begin, (multiprocessing.Value("i", 0), processes)) as pool:
-        for outcome, line in pool.imap_unordered(outcome_of, jobs):
+        took = []
+        for outcome, line, name, seconds in pool.imap_unordered(outcome_of, jobs):
             counts[outcome] += 1
+            took.append((seconds, name))
             print(line, flush=True)
+    for seconds, name in sorted(took, reverse=True)[: int(asked.get("--durations", 0))]:
+        print(f"{seconds:.1f} s {name}")
     print(", ".join(f"{counts[it]} {it}" for it in ("passed", "failed", "skipped")))
     sys.exit(1 if counts["failed"] or not jobs else 0)

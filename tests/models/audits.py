@@ -1,15 +1,15 @@
 """A slow model of an audit's verdict, exports to try it on, and the audits of what runs of `payd sim` leave.
 
-It is written from docs/DEFINITIONS.md: which front is the largest is found among all fronts that steps reach. It
+It is written from docs/clauses.md: which front is the largest is found among all fronts that steps reach. It
 shares no code with the crates.
 """
 
 import json
 
-from frames import payment, payments
-from model import Ended, World
-from runs import run, same, with_files
-from values import entries, numbered_entries
+from payd_tools.frames import payment, payments
+from payd_tools.model import Ended, World
+from payd_tools.values import entries, numbered_entries
+from support.runs import run, same, with_files
 
 A = payment(payee=0, amount=5).hex()
 B = payment(payee=1, amount=5).hex()
@@ -33,6 +33,9 @@ def export(opening, lists, front, balances, member=0, faults=None):
 PAID = export([0, 0, 0, 50], [[], [], [], [A]], [0, 0, 0, 1], [5, 0, 0, 45])
 FRESH = export([0, 0, 0, 50], [[], [], [], []], [0, 0, 0, 0], [0, 0, 0, 50], member=1)
 FORKED = export([0, 0, 0, 50], [[], [], [], [B]], [0, 0, 0, 1], [0, 5, 0, 45], member=2)
+
+# Two of an account that pays five which it hasn't, each to another account.
+WAITING = [{**FRESH, "lists": [[payment(payee=payee, amount=5).hex()], [], [], []]} for payee in (1, 2)]
 
 # One of an account that pays five, and nothing to itself, in one value: that is two entries.
 TWO_ENTRIES = export([100, 0, 0, 50], [[], [], [], [payments([(1, 5), (3, 1)]).hex()]], [0, 0, 0, 2], [100, 5, 0, 45])
@@ -64,6 +67,11 @@ ROWS = [
         "4 fork 0 2 owner 3 seq 0",
     ),
     ("two forks: the least pair is named", [FRESH, PAID, FORKED, FORKED], "4 fork 1 2 owner 3 seq 0"),
+    (
+        "the first export's fork goes before one of two others",
+        [WAITING[0], PAID, FORKED, FRESH, WAITING[1]],
+        "4 fork 0 4 owner 0 seq 0",
+    ),
     ("a front that is behind its own lists", [{**PAID, "front": [0, 0, 0, 0]}], "2 front 0 account 3"),
     ("a front that is ahead of its own lists", [FRESH, {**FRESH, "front": [0, 1, 0, 0]}], "2 front 1 account 1"),
     ("the greatest number as a front", [{**PAID, "front": [0, 0, 0, 2**64 - 1]}], "2 front 0 account 3"),
@@ -306,14 +314,33 @@ def random_exports(random):
         if random.random() < 0.15 and any(own):
             values = random.choice([values for values in own if values])
             values[random.randrange(len(values))] = random_value(random, members)
-        given = export(opening, own, [], [], member=random.randrange(members))
-        given["front"] = list(largest_front(given))
-        given["balances"] = [balance(given, given["front"], account) for account in range(members)]
+        given = booked(export(opening, own, [], [], member=random.randrange(members)))
         for name in ("front", "balances", "opening"):
             if random.random() < 0.05:
                 given[name] = list(given[name])
                 given[name][random.randrange(members)] += random.choice([1, 2])
         exports.append(given)
+    return exports
+
+
+def booked(given):
+    """The export with the books that its lists have."""
+    given["front"] = list(largest_front(given))
+    given["balances"] = [balance(given, given["front"], account) for account in range(given["members"])]
+    return given
+
+
+def forked(given, random):
+    """Exports that have prefixes of this one's lists, many of them empty, and now and then another value: forks
+    between few pairs, so that it shows in which order these are asked."""
+    exports = []
+    for _ in range(random.randrange(3, 9)):
+        lists = [texts[: random.choice([0, 0, len(texts)])] for texts in given["lists"]]
+        some = [texts for texts in lists if texts]
+        if some and random.random() < 0.5:
+            texts = random.choice(some)
+            texts[random.randrange(len(texts))] = random_value(random, given["members"])
+        exports.append(booked({**given, "lists": lists}))
     return exports
 
 

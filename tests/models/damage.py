@@ -1,14 +1,14 @@
 """Damaged input, and what the formats say of it: models of `check` and of each kind of file.
 
-They are written from docs/COMMANDS.md and docs/DEFINITIONS.md and share no code with the crates.
+They are written from docs/formats.md, docs/errors.md and docs/commands.md, and share no code with the crates.
 """
 
 import json
 
-import audits
-from frames import ECHO, HEAD, READY, SEND, WANT, fault_in_head, frame, read_frame
-from runs import GENESIS, of_file, of_keys
-from values import entries
+from models import audits
+from payd_tools.frames import ECHO, HEAD, READY, SEND, WANT, fault_in_head, frame, read_frame
+from payd_tools.values import entries
+from support.runs import GENESIS, of_file, of_keys
 
 MOST_MEMBERS = 128
 GREATEST = 2**64

@@ -1,7 +1,7 @@
 """A slow model of a desk whose member meets no peer, and lines to try it on.
 
-It is written from docs/DEFINITIONS.md and shares no code with the crates. Without peers nothing is delivered in a
-group of several, and alone there is nobody to pay: so no balance moves. Alone notes settle at once.
+It is written from docs/commands.md and docs/formats.md and shares no code with the crates. Without peers nothing is
+delivered in a group of several, and alone there is nobody to pay: so no balance moves. Alone notes settle at once.
 
 A character of a line or an answer here is a byte: both are encoded as Latin-1.
 """
@@ -128,7 +128,6 @@ SEVERAL = [
     ("STATE 0 3", "state 0 3 asked"),
     ("STATE 0 4", "state 0 4 unknown"),
 ]
-
 
 
 def utf8(text):

@@ -1,14 +1,14 @@
 """A slow model of a group's book: what more exports have than members may lie, settled, and what is said of it.
 
-It is written from docs/COMMANDS.md and docs/DEFINITIONS.md: a list is looked for among all beginnings of all exports'
+It is written from docs/commands.md and docs/clauses.md: a list is looked for among all beginnings of all exports'
 lists, the longest first. It shares no code with the crates; which front is the largest is the model's of audits.
 """
 
 import json
 
-import audits
-from runs import with_files
-from values import numbered_entries
+from models import audits
+from payd_tools.values import numbered_entries
+from support.runs import with_files
 
 GENESIS = ("members", "faults", "opening")
 

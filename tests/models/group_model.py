@@ -6,6 +6,11 @@ import hmac
 P = 2**255 - 19
 A24 = 121665
 BASE = (9).to_bytes(32, "little")
+D = -121665 * pow(121666, P - 2, P)
+BASE_OF_SIGNATURES = (
+    15112221349535400772501151409588531511454012693041857206046113283949847762202,
+    46316835694926478169428394003475163141307993866256225615783033603165251855960,
+)
 
 
 def x25519(secret, point):
@@ -30,6 +35,16 @@ def ladder_step(x_1, x_2, z_2, x_3, z_3):
     aa, bb, da, cb = a * a % P, b * b % P, d * a % P, c * b % P
     e = aa - bb
     return aa * bb % P, e * (aa + A24 * e) % P, (da + cb) ** 2 % P, x_1 * (da - cb) ** 2 % P
+
+
+def multiple(times):
+    """The base point of RFC 8032, section 5.1, added up so many times, in the bytes of section 5.1.2."""
+    x, y = BASE_OF_SIGNATURES
+    for _ in range(times - 1):
+        a, b = BASE_OF_SIGNATURES
+        product = D * x * a * y * b
+        x, y = (x * b + a * y) * pow(1 + product, P - 2, P) % P, (y * b + x * a) * pow(1 - product, P - 2, P) % P
+    return (y | (x & 1) << 255).to_bytes(32, "little")
 
 
 def hkdf(secret, salt, info, length=32):
@@ -58,14 +73,15 @@ def canonical(group):
 
 
 def fingerprint(group):
-    """Twelve groups of five digits: five bytes each of SHA-512 of that text, modulo 100,000."""
-    digest = hashlib.sha512(canonical(group).encode("ascii")).digest()
+    """Twelve groups of five digits: five bytes each of SHA-512 of that text and of the unit, modulo 100,000."""
+    unit = f"unit {group['unit']} {group['decimals']}\n" if "unit" in group else ""
+    digest = hashlib.sha512((canonical(group) + unit).encode()).digest()
     return " ".join(str(int(digest[at : at + 5].hex(), 16) % 100000).zfill(5) for at in range(0, 60, 5))
 
 
 def keys(group, own, secret):
     """The file of keys of a member."""
-    salt = hashlib.sha256(canonical(group).encode("ascii")).digest()
+    salt = hashlib.sha256(canonical(group).encode()).digest()
     found = []
     for peer, public in enumerate(group["public"]):
         info = f"payd pair {min(own, peer)} {max(own, peer)}".encode("ascii")

@@ -3,7 +3,7 @@
 import json
 import random
 
-from frames import payment, payments
+from payd_tools.frames import payment, payments
 
 FOUR_ONE_LIAR = '{"faults":1,"liars":[3],"members":4,"opening":[100,0,0,50]}'
 SEVEN_TWO_LIARS = '{"faults":2,"liars":[5,6],"members":7,"opening":[7,0,0,0,0,9,0]}'
@@ -85,6 +85,18 @@ WORKED = [
             f"lie 3 0 next echo 3 0 {A}; lie 3 1 next ready 3 0 {A}; all; show",
         ],
         [*["took echo"] * 3, *["took"] * 2, "brought 12; converged", *shown(3, "0 0 0 1", "100 5 0 45")],
+    ),
+    worked(
+        "second votes count for nothing", FOUR_ONE_LIAR,
+        [
+            f"lie 3 0 next send 3 0 {A}; lie 3 1 next send 3 0 {B}",
+            *(f"lie 3 0 next {kind} 3 0 {value}" for kind in ("echo", "ready") for value in (B, A)),
+            f"lie 3 2 next send 3 0 {A}; lie 3 2 next echo 3 0 {A}; all; show",
+        ],
+        [
+            *["took echo"] * 2, *["took"] * 4, "took echo; took; brought 8; converged",
+            *shown(3, "0 0 0 0", "100 0 0 50"),
+        ],
     ),
     worked(
         "circular debts", four_honest(0, 0, 0, 50),

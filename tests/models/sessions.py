@@ -1,11 +1,12 @@
 """Sessions of one node with its peers, byte by byte, written by hand from the pages in docs/.
 
 Each row is a group, the member that runs, how many frames it asks for ahead, and steps: a line to the desk with its
-answer; a connection that the node dials, or a member to the node; bytes that the member writes on it, with the frames
-that the node then writes; who ends it. What a member says stands beside it as a frame of the right tag.
+answer; a connection that the node dials, once its challenge is answered, or that a member dials; bytes that the member
+writes on it, with the frames that the node then writes; who ends it. What a member says stands beside it as a frame of
+the right tag.
 """
 
-from frames import ECHO, READY, SEND, WANT, frame, payment
+from payd_tools.frames import CHALLENGE, CLAIM, ECHO, READY, SEND, STRIDE, WANT, frame, payment
 
 OPENING = [100, 0, 0, 50]
 # the payments of member 0, each with its line, and a value that moves nothing
@@ -123,6 +124,24 @@ ROWS = [
     row(
         "a WANT is answered to its sender, whoever asked first on the connection", 64, line(0), DIALS,
         says(want(3, 0, 0), want(2, 0, 1), answered=[sent(0), sent(1, to=2)]),
+    ),
+    row(
+        "a challenge is answered by the claim on its nonce, from the least to the greatest", 64, line(0), DIALS,
+        *(
+            says(want(3, 0, CHALLENGE + it * STRIDE), answered=[want(0, 3, CLAIM + it * STRIDE)])
+            for it in (0, 5, 2**37 - 1)
+        ),
+        says(want(3, 0, 1), answered=[sent(1)]),
+    ),
+    row(
+        "a claim says how many frames the node took", 64, DIALED, FIRST_FOUR,
+        says(echo(0, 0), answered=[want(0, 1, 4), want(0, 1, 5)]),
+        DIALS,
+        says(want(1, 0, CHALLENGE + STRIDE), answered=[want(0, 1, CLAIM + STRIDE + 1)]),
+    ),
+    row(
+        "a WANT of another number from 2^63 on has no answer", 64, line(0), DIALS,
+        says(*(want(3, 0, it) for it in (CHALLENGE + 1, CLAIM, 2**64 - 1)), want(3, 0, 1), answered=[sent(1)]),
     ),
     row("bytes that no frame begins with end it", 64, DIALS, says(want(3, 0, 0)[:2] + b"\2"), ENDED),
     row(

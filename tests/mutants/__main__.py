@@ -7,7 +7,7 @@ body it changes, as the prover names it but for the crate. A line 'body: TEXT' i
 stands before the one that there is; or pairs of lines 'old: TEXT' and 'new: TEXT' change that, in which each old text
 stands once. Where the function ensures several clauses, a line 'clause: NAME' says which of them has to kill it;
 'clause: invariant', that the invariant of a type has to; 'clause: what NAME requires', that what a call of this
-function requires has to. 'promise: NAME' marks one that tests this promise of docs/PROMISES.md.
+function requires has to. 'promise: NAME' marks one that tests this promise of docs/guarantees.md.
 
 A mutant stands in a twin of its function: one of another name, with the same proof files (none where all of its body
 is new), that ensures this clause and no other. All other functions are stubbed: taken by their contracts, without their
@@ -44,14 +44,11 @@ import threading
 from concurrent.futures import ThreadPoolExecutor, as_completed
 from dataclasses import dataclass
 
-sys.dont_write_bytecode = True
-
-from kit import TOP, rt, rtlib  # noqa: E402
-from checks import BAD_EDIT, KILLED, Outcome, Tally, try_batch  # noqa: E402
-from by_tests import try_by_tests  # noqa: E402
-from coverage import faults_of_repository  # noqa: E402
-from edits import FOLDER, Mutant, in_batches, read_mutants  # noqa: E402
-from trial import try_itself  # noqa: E402
+from by_tests import try_by_tests
+from coverage import faults_of_repository
+from edits import FOLDER, TOP, Mutant, in_batches, read_mutants, rt, rtlib
+from trial import try_itself
+from verdicts import BAD_EDIT, KILLED, Outcome, Tally, try_batch
 
 # What a check may take of memory, in bytes.
 MEMORY = 3_000_000_000
@@ -59,11 +56,25 @@ MEMORY = 3_000_000_000
 
 @dataclass
 class Task:
-    """A crate, its mutants that are to be tried, and the edits that can't be."""
+    """A crate, its mutants that are to be tried, and what came of those that were or can't be."""
 
     crate: object
     mutants: list[Mutant]
-    bad: list[Outcome]
+    tally: Tally
+    # How many batches of them are still to be tried.
+    left: int = 0
+
+    def report(self, has_said: bool) -> tuple[int, int]:
+        """Prints what came of its mutants, and returns how many were killed and how many weren't."""
+        name, outcomes = self.crate.name, self.tally.outcomes
+        killed = sum(it.verdict == KILLED for it in outcomes)
+        print(f"{name}: {killed} of {len(outcomes)} mutants are killed; ", end="")
+        print(f"{self.tally.checks} checks, {self.tally.seconds:.0f} processor seconds")
+        for it in outcomes:
+            if has_said or it.verdict != KILLED:
+                print(f"{name}/{it.mutant}: {it.verdict}: {it.said[:500]}")
+        sys.stdout.flush()
+        return killed, len(outcomes) - killed
 
 
 def task_of(crate, asked: set[str]) -> Task:
@@ -74,11 +85,11 @@ def task_of(crate, asked: set[str]) -> Task:
         sys.exit(f"mutants: {crate.name} has no mutant {min(missing)}")
     is_part = bool(named) and crate.name not in asked
     bad = [Outcome(name, BAD_EDIT, why) for name, why in bad.items() if not is_part or name in named]
-    return Task(crate, [it for it in mutants if not is_part or it.name in named], bad)
+    return Task(crate, [it for it in mutants if not is_part or it.name in named], Tally(bad))
 
 
-def crates_to_try(asked: set[str], has_above: bool) -> list:
-    """The crates with mutants, lowest first."""
+def tasks_of(asked: set[str], has_above: bool) -> list[Task]:
+    """The crates with mutants that are asked for, or all, lowest first."""
     crates = rtlib.crates_below(TOP)
     names = {it.partition("/")[0] for it in asked}
     missing = names - {it.name for it in crates}
@@ -87,7 +98,7 @@ def crates_to_try(asked: set[str], has_above: bool) -> list:
     if has_above:
         names |= {it.name for it in crates if names & {below.name for below in it.below()}}
     chosen = [it for it in crates if not names or it.name in names]
-    return [it for it in chosen if os.path.isdir(f"{it.folder}/{FOLDER}")]
+    return [task_of(it, asked) for it in chosen if os.path.isdir(f"{it.folder}/{FOLDER}")]
 
 
 def built_by_ci(libraries) -> bool:
@@ -126,39 +137,29 @@ def build_libraries(libraries) -> bool:
     return True
 
 
-def report(task: Task, tally: Tally, has_said: bool) -> tuple[int, int]:
-    """Prints what came of a crate's mutants, and returns how many were killed and how many weren't."""
-    outcomes = task.bad + tally.outcomes
-    killed = sum(it.verdict == KILLED for it in outcomes)
-    print(f"{task.crate.name}: {killed} of {len(outcomes)} mutants are killed; ", end="")
-    print(f"{tally.checks} checks, {tally.seconds:.0f} processor seconds")
-    for it in outcomes:
-        if has_said or it.verdict != KILLED:
-            print(f"{task.crate.name}/{it.mutant}: {it.verdict}: {it.said[:500]}")
-    sys.stdout.flush()
-    return killed, len(outcomes) - killed
+def print_faults(faults: list[str]) -> tuple[int, int]:
+    print(*faults, sep="\n", end="\n" if faults else "")
+    return (0, len(faults)) if faults else (1, 0)
 
 
 def try_all(tasks: list[Task], words: argparse.Namespace, jobs: int) -> int:
     """Tries the crates' mutants, those checks first that have most, and returns the status."""
-    counts, came, left = [], [Tally() for _ in tasks], [0 for _ in tasks]
-    batches = [(at, batch) for at, task in enumerate(tasks) for batch in in_batches(task.mutants)]
+    batches = [(task, batch) for task in tasks for batch in in_batches(task.mutants)]
     with ThreadPoolExecutor(jobs) as pool:
         running = {}
-        for at, batch in sorted(batches, key=lambda it: -len(it[1])):
-            running[pool.submit(try_batch, tasks[at].crate, batch)] = at
-            left[at] += 1
+        for task, batch in sorted(batches, key=lambda it: -len(it[1])):
+            running[pool.submit(try_batch, task.crate, batch)] = task
+            task.left += 1
         itself = [] if words.asked else [pool.submit(try_itself)]
-        counts += [report(it, Tally(), words.said) for it, number in zip(tasks, left) if not number]
+        counts = [it.report(words.said) for it in tasks if not it.left]
         for ended in as_completed([*running]):
-            at = running[ended]
-            came[at].add(ended.result())
-            left[at] -= 1
-            if not left[at]:
-                counts.append(report(tasks[at], came[at], words.said))
-        for faults in [it.result() for it in itself] + [faults_of_repository()] * (not words.asked):
-            print(*faults, sep="\n", end="\n" if faults else "")
-            counts.append((1, 0) if not faults else (0, len(faults)))
+            task = running[ended]
+            task.tally.add(ended.result())
+            task.left -= 1
+            if not task.left:
+                counts.append(task.report(words.said))
+        counts += [print_faults(it.result()) for it in itself]
+    counts += [] if words.asked else [print_faults(faults_of_repository())]
     passed, failed = (sum(it) for it in zip(*counts))
     print(f"{passed} passed, {failed} failed")
     return 1 if failed else 0
@@ -168,11 +169,10 @@ def read_only(tasks: list[Task]) -> int:
     """Says of each edit that can't be tried why, and what the repository lacks."""
     for task in tasks:
         print(f"{task.crate.name}: {len(task.mutants)} mutants, {len(in_batches(task.mutants))} checks")
-        for it in task.bad:
+        for it in task.tally.outcomes:
             print(f"{task.crate.name}/{it.mutant}: {it.verdict}: {it.said}")
-    faults = faults_of_repository()
-    print(*faults, sep="\n", end="\n" if faults else "")
-    return 1 if faults or any(it.bad for it in tasks) else 0
+    _, failed = print_faults(faults_of_repository())
+    return 1 if failed or any(it.tally.outcomes for it in tasks) else 0
 
 
 def read_words() -> argparse.Namespace:
@@ -192,7 +192,7 @@ def main() -> int:
     words = read_words()
     if words.by_tests:
         return try_by_tests(words.asked)
-    tasks = [task_of(it, {*words.asked}) for it in crates_to_try({*words.asked}, words.above)]
+    tasks = tasks_of({*words.asked}, words.above)
     if words.dry:
         return read_only(tasks)
     # (its first call sets a signal's handler, which only the main thread may)

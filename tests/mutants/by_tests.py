@@ -11,34 +11,23 @@ import os
 import shutil
 import subprocess
 import tempfile
-from dataclasses import dataclass
 
-from edits import MARKS, BadEdit, apply, lines_of, marked
-from kit import TOP, rtlib
-from sources import write_files
+from copies import write_files
+from edits import MARKS, TOP, BadEdit, lines_of, mutant_of, read_edit, rtlib
 
 FOLDER = os.path.join(TOP, "tests", "mutants", "by_tests")
 
 
-@dataclass
-class Trial:
-    """A mutant, the file of a crate that it changes with what this becomes, and the test that has to kill it."""
-
-    name: str
-    file: str
-    text: str
-    test: str
-
-
-def read_trial(name: str) -> Trial:
-    lines = lines_of(os.path.join(FOLDER, name), (*MARKS, "crate", "test"))
-    crates, tests = marked(lines, "crate"), marked(lines, "test")
-    crate = next((it for it in rtlib.crates_below(TOP) if [it.name] == crates), None)
-    if crate is None or len(tests) != 1:
+def read_trial(name: str) -> tuple[str, dict[str, str]]:
+    """Returns the test that has to kill a mutant, and the file of a crate that this changes with what it becomes."""
+    edit = read_edit(os.path.join(FOLDER, f"{name}.edit"), (*MARKS, "crate", "test"))
+    crate = next((it for it in rtlib.crates_below(TOP) if [it.name] == edit["crate"]), None)
+    if crate is None or len(edit["test"]) != 1:
         raise BadEdit("it has to name one crate and one test")
-    mutant, parts = apply(crate, name.removesuffix(".edit"), lines)
-    parts[mutant.at] = mutant.body
-    return Trial(mutant.name, f"crates/{crate.name}/{mutant.file}", "".join(parts), tests[0])
+    mutant = mutant_of(crate, name, edit)
+    lines = [*lines_of(crate, mutant.of.file)]
+    lines[mutant.of.body.start : mutant.of.body.stop] = [mutant.body]
+    return edit["test"][0], {f"crates/{crate.name}/src/{mutant.of.file}": "\n".join(lines) + "\n"}
 
 
 def passes_in_copy(texts: dict[str, str], test: str) -> bool | None:
@@ -57,21 +46,24 @@ def passes_in_copy(texts: dict[str, str], test: str) -> bool | None:
 
 def try_by_tests(asked: list[str]) -> int:
     """Tries those that are asked for, or all, and returns the status."""
-    passed, faults, trials = 0, [], []
-    for name in sorted(it for it in os.listdir(FOLDER) if not asked or it.removesuffix(".edit") in asked):
+    passed, faults, trials = 0, [], {}
+    names = sorted(it.removesuffix(".edit") for it in os.listdir(FOLDER))
+    for name in (it for it in names if not asked or it in asked):
         try:
-            trials.append(read_trial(name))
+            trials[name] = read_trial(name)
         except (BadEdit, OSError, UnicodeDecodeError) as why:
             faults.append(f"{name}: BAD EDIT: {why}")
-    failing = {it for it in sorted({it.test for it in trials}) if not passes_in_copy({}, it)}
+    failing = {it for it in sorted({test for test, _ in trials.values()}) if not passes_in_copy({}, it)}
     faults += [f"{it} fails without a mutant" for it in sorted(failing)]
-    for it in (it for it in trials if it.test not in failing):
-        came = passes_in_copy({it.file: it.text}, it.test)
+    for name, (test, texts) in trials.items():
+        if test in failing:
+            continue
+        came = passes_in_copy(texts, test)
         if came is False:
             passed += 1
-            print(f"{it.name}: killed by {it.test}", flush=True)
+            print(f"{name}: killed by {test}", flush=True)
         else:
-            faults.append(f"{it.name}: {'SURVIVED' if came else 'BAD EDIT: the tests can not be compiled'}")
+            faults.append(f"{name}: {'SURVIVED' if came else 'BAD EDIT: the tests can not be compiled'}")
     print(*faults, sep="\n", end="\n" if faults else "")
     print(f"{passed} passed, {len(faults)} failed")
     return 1 if faults or not trials else 0

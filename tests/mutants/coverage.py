@@ -1,54 +1,49 @@
-"""Which promises of docs/PROMISES.md and which public functions have a mutant."""
+"""Which promises of docs/guarantees.md and which public functions have a mutant."""
 
 from __future__ import annotations
 
-import inventory
+from payd_tools.repository import inventory
 
 # Public functions that have no other body: they lend, share or hand out the one value of its type that they have, or an
-# empty one that nothing at hand could fill; or a trait's of which there is no impl.
+# empty one that nothing at hand could fill; or a trait's of which there is no impl. Or they are laws, which do nothing
+# with a value of the type that they are of.
 WITHOUT_OTHER_BODY = {
     "pay_audit::exported::Export::genesis",
     "pay_channel::instances::Instances::new",
-    "pay_cli::finding::Findings::new",
     "pay_desk::desk::Desk::into_teller",
-    "pay_desk::desk::Desk::teller",
-    "pay_frame::shared_body::SharedBody::body",
-    "pay_frame::shared_body::SharedBody::copy",
-    "pay_io::counted::Counted::into_inner",
-    "pay_durable::durable_output::DurableOutput::into_inner",
-    "pay_durable::following::Following::new",
+    "pay_frame::body::SharedBody::body",
+    "pay_frame::body::SharedBody::copy",
+    "pay_frame::device::Counted::into_inner",
+    "pay_durable::keeper::DurableOutput::into_inner",
+    "pay_durable::laws::resumed_log_follows",
     "pay_link::checked::Checked::body",
     "pay_link::checked::Checked::copy",
     "pay_link::opened::Opened::frame",
-    "pay_log::log::Log::into_device",
-    "pay_log::sink::Payloads::new",
-    "pay_member::asked_value::AskedValue::bytes",
-    "pay_member::asked_value::AskedValue::into_bytes",
+    "pay_log::reading::Payloads::new",
+    "pay_member::event::AskedValue::bytes",
+    "pay_member::event::AskedValue::into_bytes",
     "pay_member::member::Member::genesis",
     "pay_member::member::Member::keys",
     "pay_member::member::Member::view",
     "pay_member::view::MemberView::genesis",
     "pay_net::start::NodeStart::fresh",
-    "pay_node::fetch_seat::FetchSeat::new",
+    "pay_node::seat::FetchSeat::new",
     "pay_node::node::Node::keys",
-    "pay_node::stopped::Stopped::into_member",
-    "pay_node::stopped::Stopped::member",
+    "pay_node::closing::Stopped::into_member",
+    "pay_node::closing::Stopped::member",
     "pay_peers::teller::NodeTeller::into_seat",
-    "pay_record::reading::EntryRecords::new",
+    "pay_record::crashes::crashes_add_up",
+    "pay_record::crashes::settled_log_starts",
 }
 
 
 def faults_of_repository() -> list[str]:
     crates = inventory.read_crates()
-    marked = {it.name: it.promises for crate in crates for it in crate.mutants}
-    return faults_of_promises(inventory.read_promises(), marked) + faults_of_functions(crates)
-
-
-def faults_of_promises(promises: list[str], marked: dict[str, list[str]]) -> list[str]:
-    """What is amiss between the promises and the edits, each with the promises that it is marked with."""
-    named = {it for names in marked.values() for it in names}
+    promises = inventory.read_promises()
+    named = {it for crate in crates for mutant in crate.mutants for it in mutant.promises}
     faults = [f"no mutant is marked with the promise '{it}'" for it in promises if it not in named]
-    return faults + [f"a mutant is marked with '{it}', which is no promise" for it in sorted(named - {*promises})]
+    faults += [f"a mutant is marked with '{it}', which is no promise" for it in sorted(named - {*promises})]
+    return faults + faults_of_functions(crates)
 
 
 def faults_of_functions(crates: list) -> list[str]:

@@ -2,12 +2,19 @@
 
 from __future__ import annotations
 
+import functools
 import os
 import re
+import sys
 from dataclasses import dataclass
 
-from inventory import read_file
-from sources import clauses_of, cut, is_answered_whole, is_of_trait, item, named, proof_folders
+from payd_tools.repository import toolchain
+from payd_tools.repository.inventory import Function, read_file, read_functions
+
+TOP = toolchain.TOP
+# The toolchain's command rt as a module, for the words of a check.
+rt = toolchain.load_rt() or sys.exit("mutants: the command rt isn't on the path")
+rtlib = rt.rtlib
 
 FOLDER = "mutants"
 # What a mutant names in place of a clause that the invariant of a type has to kill.
@@ -23,13 +30,10 @@ class BadEdit(Exception):
 
 @dataclass
 class Mutant:
-    """An edit of one function's body: its name, the function, its file, which part of that is the body, and the new
-    body."""
+    """An edit of one function's body: its name, the function, and the new body."""
 
     name: str
-    function: str
-    file: str
-    at: int
+    of: Function
     body: str
     # The one clause that has to kill it, or '' where any may.
     clause: str
@@ -37,98 +41,69 @@ class Mutant:
     can_be_twin: bool
     # Whether it keeps the function's own body in part, so that proof files of that are of use.
     has_proofs: bool
-
-
-@dataclass
-class Place:
-    """Where a check has a mutant: in a twin, whose name ends with this, or in its function's own place."""
-
-    mutant: Mutant
-    ending: str
+    # With what the name of its twin ends, or '' where it stands in its function's own place.
+    ending: str = ""
 
     def function(self) -> str:
-        return self.mutant.function + self.ending
+        """Returns how the prover names the function that has the new body."""
+        return self.of.path() + self.ending
 
     def own_clause(self) -> str:
-        """The clause of the function itself that the mutant names, or ''."""
-        return self.mutant.clause if is_own(self.mutant.clause) else ""
+        """Returns the clause of the function itself that it names, or ''."""
+        return "" if self.clause == INVARIANT or REQUIRED.fullmatch(self.clause) else self.clause
 
 
-def is_own(clause: str) -> bool:
-    """Whether a mutant names a clause of its function so."""
-    return clause not in ("", INVARIANT) and not REQUIRED.fullmatch(clause)
+@functools.lru_cache(None)
+def lines_of(crate, file: str) -> list[str]:
+    """Returns the lines of a crate's source."""
+    return read_file(f"{crate.folder}/src/{file}").splitlines()
 
 
-def lines_of(path: str, marks: tuple[str, ...]) -> list[tuple[str, str]]:
-    """The lines of an edit, each as its mark and what stands after it."""
-    lines = [it.partition(": ")[::2] for it in read_file(path).splitlines()]
-    other = next((": ".join(it) for it in lines if it[0] not in marks or not it[1]), "")
-    if other:
-        raise BadEdit(f"a line begins with no mark of an edit, or says nothing: {other}")
-    return lines
+@functools.lru_cache(None)
+def functions_in(crate) -> dict[str, Function]:
+    """Returns the functions of a crate that have a body, as the prover names them."""
+    return {it.path(): it for it in read_functions(crate.folder) if it.body}
 
 
-def marked(lines: list[tuple[str, str]], mark: str) -> list[str]:
-    """What stands after a mark, line by line."""
-    return [text for it, text in lines if it == mark]
+def proof_folders(function: str) -> tuple[str, str]:
+    """Where the proof files of a function are, and those of its closures."""
+    module, _, name = f"proofs::{function}".replace("::", "/").rpartition("/")
+    return f"{module}/{name}", f"{module}/fn/{name}"
 
 
-def apply(crate, name: str, lines: list[tuple[str, str]]) -> tuple[Mutant, list[str]]:
-    """A mutant by the lines of its edit, and all parts of its file."""
-    functions, clauses = marked(lines, "function"), marked(lines, "clause")
-    if len(functions) != 1 or len(clauses) > 1:
+def read_edit(path: str, marks: tuple[str, ...] = MARKS) -> dict[str, list[str]]:
+    """Returns what stands after each mark of an edit, line by line."""
+    edit: dict[str, list[str]] = {it: [] for it in marks}
+    for line in read_file(path).splitlines():
+        mark, _, text = line.partition(": ")
+        if mark not in edit or not text:
+            raise BadEdit(f"a line begins with no mark of an edit, or says nothing: {line}")
+        edit[mark].append(text)
+    return edit
+
+
+def mutant_of(crate, name: str, edit: dict[str, list[str]]) -> Mutant:
+    """Applies an edit to its function's body."""
+    if len(edit["function"]) != 1 or len(edit["clause"]) > 1:
         raise BadEdit("it has to name one function, and one clause at most")
-    file = file_of(crate, functions[0])
-    own = cut(read_file(f"{crate.folder}/{file}"))
-    at = place_of(own, file, functions[0])
-    head, texts = item(own[at - 1][1], own[at][0]), [text for _, text in own]
-    has_closures = os.path.exists(f"{crate.folder}/{proof_folders(functions[0])[1]}")
-    is_fixed = has_closures or "#[cycle" in head or is_of_trait("".join(texts[:at]), own[at][0])
-    body, has_proofs = body_of(lines, texts[at]), not marked(lines, "body")
-    return Mutant(name, functions[0], file, at, body, "".join(clauses), not is_fixed, has_proofs), texts
+    [path] = edit["function"]
+    if path not in functions_in(crate):
+        raise BadEdit(f"no function with a body is {path}")
+    of = functions_in(crate)[path]
+    lines = lines_of(crate, of.file)
+    is_cycle = any("#[cycle" in it for it in lines[of.lines.start : of.body.start])
+    has_closures = os.path.exists(f"{crate.folder}/{proof_folders(path)[1]}")
+    is_fixed = has_closures or is_cycle or of.inside.is_trait or of.trait != ""
+    body = body_of(edit, "\n".join(lines[of.body.start : of.body.stop]))
+    return Mutant(name, of, body, "".join(edit["clause"]), not is_fixed, not edit["body"])
 
 
-def read_mutant(crate, name: str) -> Mutant:
-    """Reads an edit, and applies it to its function's body."""
-    lines = lines_of(f"{crate.folder}/{FOLDER}/{name}.edit", MARKS)
-    mutant, texts = apply(crate, name, lines)
-    if mutant.can_be_twin:
-        head = item(texts[mutant.at - 1], mutant.function.rpartition("::")[2])
-        look_at_clause(crate, mutant, {*clauses_of(head)})
-    return mutant
-
-
-def file_of(crate, function: str) -> str:
-    """The file of src/ that a function stands in, by the modules in its path."""
-    names = function.split("::")[:-1]
-    for count in range(len(names), 0, -1):
-        file = f"src/{'/'.join(names[:count])}.rt"
-        if os.path.isfile(f"{crate.folder}/{file}"):
-            return file
-    return "src/main.rt" if os.path.isfile(f"{crate.folder}/src/main.rt") else "src/lib.rt"
-
-
-def place_of(own: list[tuple[str, str]], file: str, function: str) -> int:
-    """Which part of a file's source is a function's body."""
-    paths, head = {}, ""
-    for at, (name, text) in enumerate(own):
-        if name:
-            paths[at] = named(file, head, name)
-        head += text
-    found = [at for at, path in paths.items() if path == function]
-    # (where its place doesn't tell how the prover names a function, its name alone does)
-    found = found or [at for at in paths if own[at][0] == function.rpartition("::")[2]]
-    if len(found) != 1:
-        raise BadEdit(f"{len(found)} functions of {file} can be {function}")
-    return found[0]
-
-
-def body_of(lines: list[tuple[str, str]], body: str) -> str:
+def body_of(edit: dict[str, list[str]], body: str) -> str:
     """What a function's body becomes."""
-    whole, first, olds, news = (marked(lines, it) for it in ("body", "first", "old", "new"))
+    whole, first, olds, news = (edit[it] for it in ("body", "first", "old", "new"))
     if [bool(whole), bool(first), bool(olds)].count(True) != 1 or len(olds) != len(news):
         raise BadEdit("it has to have a line 'body: TEXT' or 'first: TEXT', or pairs of 'old: TEXT' and 'new: TEXT'")
-    new = "".join(f"\n{it}" for it in whole or first) + ("\n" if whole else body)
+    new = "\n".join(whole or [*first, body])
     for old, then in zip(olds, news):
         if new.count(old) != 1:
             raise BadEdit(f"the old text stands {new.count(old)} times in its function's body: {old}")
@@ -138,18 +113,19 @@ def body_of(lines: list[tuple[str, str]], body: str) -> str:
     return new
 
 
-def look_at_clause(crate, mutant: Mutant, names: set[str]) -> None:
+def look_at_clause(crate, mutant: Mutant) -> None:
     """Refuses a mutant that doesn't name its clause though its function has several, or names another's."""
-    if mutant.clause and not is_own(mutant.clause):
-        return
-    folder = f"{crate.folder}/{proof_folders(mutant.function)[0]}"
-    files = sorted(os.listdir(folder)) if mutant.has_proofs and os.path.isdir(folder) else []
-    proofs = [read_file(f"{folder}/{it}") for it in files]
-    if mutant.clause and mutant.clause not in names:
+    names = {*mutant.of.ensures}
+    if mutant.own_clause() and mutant.own_clause() not in names:
         raise BadEdit(f"its function has no clause '{mutant.clause}'")
-    if mutant.clause and (len(names) < 2 or is_answered_whole("".join(proofs))):
+    folder = f"{crate.folder}/{proof_folders(mutant.of.path())[0]}"
+    files = os.listdir(folder) if mutant.has_proofs and os.path.isdir(folder) else []
+    # (an answer may be to all clauses at once)
+    whole = re.compile(r"(?m)^pub returns(?:(?!-clause-)[\w-])* :")
+    is_answered_whole = any(whole.search(read_file(f"{folder}/{it}")) for it in files)
+    if mutant.own_clause() and is_answered_whole:
         raise BadEdit(f"no answer is to '{mutant.clause}' alone, so that no line has to name it")
-    if len(names - {""}) > 1 and not mutant.clause and not is_answered_whole("".join(proofs)):
+    if len(names - {""}) > 1 and not mutant.clause and not is_answered_whole:
         raise BadEdit("its function has several clauses: a line 'clause: NAME' has to say which of them kills it")
 
 
@@ -161,23 +137,26 @@ def read_mutants(crate) -> tuple[list[Mutant], dict[str, str]]:
         try:
             if ending != ".edit":
                 raise BadEdit("its name doesn't end in .edit")
-            mutants.append(read_mutant(crate, name))
+            mutant = mutant_of(crate, name, read_edit(f"{folder}/{file}"))
+            if mutant.can_be_twin:
+                look_at_clause(crate, mutant)
+            mutants.append(mutant)
         except (BadEdit, OSError, UnicodeDecodeError) as why:
             bad[name] = str(why)
     return mutants, bad
 
 
-def in_batches(mutants: list[Mutant]) -> list[list[Place]]:
+def in_batches(mutants: list[Mutant]) -> list[list[Mutant]]:
     """Puts each mutant into the first batch in which it can be judged: two that can't be twins don't share one where
     they are of one function."""
-    batches: list[list[Place]] = []
+    batches: list[list[Mutant]] = []
     for mutant in sorted(mutants, key=lambda it: it.can_be_twin):
         for batch in batches:
-            taken = {it.mutant.function for it in batch if not it.ending}
-            if mutant.can_be_twin or mutant.function not in taken:
+            if mutant.can_be_twin or all(it.of is not mutant.of or it.ending for it in batch):
                 break
         else:
             batch = []
             batches.append(batch)
-        batch.append(Place(mutant, f"_mutant{len(batch)}" if mutant.can_be_twin else ""))
+        mutant.ending = f"_mutant{len(batch)}" if mutant.can_be_twin else ""
+        batch.append(mutant)
     return batches

@@ -9,14 +9,16 @@ import re
 NO_MEMORY = "memory ran out: free some, and try again"
 NOT_JSON = "it isn't JSON: name the right file"
 DISK = "a read, write or sync failed: make room, or mend the disk or the folder's rights, and start again"
-# What a second look at a disk that failed shows: something, or nothing more.
-LOOKED = rf"cannot (?:read|write in) .*: .*: mend that, and start again|(?:.*: )?{re.escape(DISK)}"
+# What is said of a file or folder in the way of one of a member's.
+MOVE_AWAY = "look what it is for, move it away, and start again"
+# What is said of a disk that failed: why, if the system has a word for it.
+FAILED = rf"cannot use .*: .*: mend that, and start again|(?:.*: )?{re.escape(DISK)}"
 
 # Of each line of a fault that which is behind it, the first that fits. Those of files have a line between.
 ADVICE = [
     (r"payd: (?:engine|genesis|keys|ports|export|log) 0 Memory", re.escape(NO_MEMORY)),
     (r"payd: engine 2 Read", "the input can't be read"),
-    (r"payd: engine 3 Write", rf"the output can't be written, and isn't whole|{LOOKED}"),
+    (r"payd: engine 3 Write", rf"the output can't be written, and isn't whole|{FAILED}"),
     (r"payd: engine 4 Bound", "the input was read 1000000 times: give what is left to another run"),
     (r"payd: (?:genesis|keys|ports) 1 BadJson", re.escape(NOT_JSON)),
     (r"payd: genesis 2 BadShape", "it lacks `members`, `faults` or `opening`, or one of them is no number or list"),
@@ -36,11 +38,12 @@ ADVICE = [
     (r"payd: export 1 BadJson", "it isn't JSON: it may be cut, so take the export once more"),
     (r"payd: export 2 BadShape", "it is no export, or an account's list is too long"),
     (r"payd: export 3 BadGenesis", "its members, faults and opening make no group"),
+    (r"payd: file .*: it has so many parts that they would take more than 16 times its size", None),
     (r"payd: file .*", r"cannot read .*: .*"),
     (r"payd: account .*", "the export has no account of this number"),
     (r"payd: port \d+", r"cannot bind 127\.0\.0\.1:\d+: .*"),
     (r"payd: socket .*: more than .*", None),
-    (r"payd: socket .*", r"cannot listen on .*: .*"),
+    (r"payd: socket .*", rf"cannot listen on .*: .*|.* is a [a-z]+: {MOVE_AWAY}"),
     (r"payd: nobody listens on .*", r".*: .*"),
     (r"payd: you may not open .*", "call it as the user of the node"),
     (
@@ -77,13 +80,17 @@ def advice_behind(line):
     return next((advice for fault, advice in ADVICE if fault.fullmatch(line)), None)
 
 
+def last_lines(errors, count=2):
+    return "".join(errors.splitlines(True)[-count:])
+
+
 def told_plainly(errors):
     """The same without the lines that say what to do, each of which has to be there."""
     lines, kept = errors.split("\n"), []
     while lines:
         kept.append(lines.pop(0))
         advice = advice_behind(kept[-1])
-        if AT_ONCE.fullmatch(kept[-1]) and lines and re.fullmatch(f"payd: (?:{LOOKED})", lines[0]):
+        if AT_ONCE.fullmatch(kept[-1]) and lines and re.fullmatch(f"payd: (?:{FAILED})", lines[0]):
             lines.pop(0)
         if advice is None:
             continue

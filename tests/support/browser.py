@@ -9,7 +9,7 @@ import shutil
 import signal
 import subprocess
 
-from nodes import PATIENCE
+from support.nodes import PATIENCE
 
 BROWSERS = "chromium", "chromium-browser", "google-chrome"
 ELEMENT = "element-6066-11e4-a52e-4f735466cecf"

@@ -3,8 +3,8 @@
 import os
 import socket
 
-from nodes import PATIENCE
-from runs import same
+from support.nodes import PATIENCE
+from support.runs import same
 
 
 class Client:

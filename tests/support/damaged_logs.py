@@ -1,13 +1,13 @@
-"""The log of a member, damaged, and what has to come of that by models/logs.py, for the tests and tests/kills."""
+"""The log of a member, damaged, and what has to come of that by payd_tools/logs.py, for the tests and tests/kills."""
 
 import contextlib
 import os
 import shutil
 
-from logs import Fault, Log
-from nodes import export_text
-from restarts import Folders
-from runs import GENESIS, call, payd, read_bytes, same
+from payd_tools.logs import Fault, Log
+from support.nodes import export_text
+from support.restarts import Folders
+from support.runs import GENESIS, call, payd, read_bytes, same
 
 OPENING = GENESIS["opening"]
 

@@ -1,15 +1,14 @@
 // Comes between the program and the C library, and refuses what the environment says: one growth of memory, one read
 // of standard input, one write of standard output, one receipt from a socket or one sending to one, one write at a place
 // of a file, one write of a folder's file, one renaming of a log or of the mark of its end, one sync, counted from 1; or
-// all but so many bytes of each read or write, or of that sending; one growth in a further thread, one thread or all; or
-// interrupts the first reads; or has all syncs of files or of folders do nothing. Where it refused something it makes
-// the file that HOSTILE_MARK names. In that which HOSTILE_NOTES names it notes, in their order, what was written to
-// files, what syncs begin and end, which files get another name, and what leaves the program.
+// all but so many bytes of each read or write, or of that sending; or interrupts the first reads; or has all syncs of
+// files or of folders do nothing. Where it refused something it makes the file that HOSTILE_MARK names. In that which
+// HOSTILE_NOTES names it notes, in their order, what was written to files, what syncs begin and end, which files get
+// another name, and what leaves the program.
 #define _GNU_SOURCE
 #include <dlfcn.h>
 #include <errno.h>
 #include <fcntl.h>
-#include <pthread.h>
 #include <stdatomic.h>
 #include <stdio.h>
 #include <stdlib.h>
@@ -73,19 +72,12 @@ static int is_figures(int file) {
     return strstr(path, "/status.prom") != NULL;
 }
 
-// Whether this growth is refused, counted among all or among those in other threads than the first.
-static int growth_refused(void) {
-    static atomic_long further;
-    return refused(&growths, "HOSTILE_GROWTH") ||
-           (syscall(SYS_gettid) != getpid() && refused(&further, "HOSTILE_FURTHER_GROWTH"));
-}
-
 void *malloc(size_t size) {
     static void *(*real)(size_t);
     if (real == NULL) {
         real = (void *(*)(size_t))dlsym(RTLD_NEXT, "malloc");
     }
-    if (growth_refused()) {
+    if (refused(&growths, "HOSTILE_GROWTH")) {
         errno = ENOMEM;
         return NULL;
     }
@@ -97,7 +89,7 @@ void *realloc(void *old, size_t size) {
     if (real == NULL) {
         real = (void *(*)(void *, size_t))dlsym(RTLD_NEXT, "realloc");
     }
-    if (growth_refused()) {
+    if (refused(&growths, "HOSTILE_GROWTH")) {
         errno = ENOMEM;
         return NULL;
     }
@@ -156,21 +148,6 @@ ssize_t write(int file, const void *buffer, size_t size) {
 
 ssize_t __write(int file, const void *buffer, size_t size) {
     return write_some(file, buffer, size);
-}
-
-typedef int starts_thread(pthread_t *, const pthread_attr_t *, void *(*)(void *), void *);
-
-int pthread_create(pthread_t *made, const pthread_attr_t *how, void *(*run)(void *), void *with) {
-    static atomic_long threads;
-    static starts_thread *real;
-    if (real == NULL) {
-        real = (starts_thread *)dlsym(RTLD_NEXT, "pthread_create");
-    }
-    if (wanted("HOSTILE_NO_THREADS")) {
-        mark();
-        return EAGAIN;
-    }
-    return refused(&threads, "HOSTILE_THREAD") ? EAGAIN : real(made, how, run, with);
 }
 
 // A write that is refused may have taken some bytes before.

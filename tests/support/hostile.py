@@ -9,9 +9,8 @@ import subprocess
 import tempfile
 from collections import Counter
 
-from advices import told_plainly
-from nodes import IN_MEMORY, started
-from runs import SECONDS, payd, same
+from support.nodes import fed, told_apart
+from support.runs import SECONDS, payd, same
 
 SOURCE = os.path.join(os.path.dirname(os.path.realpath(__file__)), "hostile.c")
 MEMORY = re.compile("payd: (engine|genesis|keys|ports|export|close) 0 Memory\n|error: .*memory.*\n", re.DOTALL)
@@ -59,8 +58,16 @@ class Hostile:
             file.write(stream)
             file.seek(0)
             done = subprocess.run([payd(), *words], stdin=file, env={**os.environ, **self.given(**wanted)}, **how)
-        errors = told_plainly(started(done.stderr.decode()).removeprefix(IN_MEMORY))
+        errors = told_apart(done.stderr.decode())[1]
         return (done.returncode, done.stdout.decode("ascii"), errors), self.was_refused()
+
+    def run_among(self, peers, words, stream, seconds=SECONDS, **wanted):
+        """The same of a node that has its lines, which fit into a pipe, once it has met so many peers."""
+        pipe = subprocess.PIPE
+        how = {"stdin": pipe, "stdout": pipe, "stderr": pipe, "cwd": self.place.name, "bufsize": 0}
+        with subprocess.Popen([payd(), *words], env={**os.environ, **self.given(**wanted)}, **how) as child:
+            output, errors = fed(child, stream, peers, seconds)
+        return (child.returncode, output, told_apart(errors)[1]), self.was_refused()
 
     def each(self, words, stream, name, **more):
         """A run for each call of this kind that a run has, each with one refused."""

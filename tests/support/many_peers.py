@@ -6,11 +6,11 @@ They answer the node's WANTs, and ask WANTs of it; what they send one another is
 import threading
 import time
 
-import audits
-from frames import WANT, frame, read_frame
-from model import Member
-from nodes import PATIENCE
-from peers import Server, connected, next_want, received
+from models import audits
+from payd_tools.frames import WANT, frame, read_frame
+from payd_tools.model import Member
+from support.nodes import PATIENCE
+from support.peers import Server, connected, next_want, received
 
 PAUSE = 0.005
 
@@ -30,7 +30,7 @@ class Crowd:
         # how many connections ended while all were to stand
         self.cuts = 0
         self.is_over = threading.Event()
-        self.servers = [Server(it, ports[it], self.serving(it)) for it in running]
+        self.servers = [Server(it, ports[it], self.serving(it), self.members[it].next) for it in running]
         self.askers = [threading.Thread(target=self.ask_all, args=(it,), daemon=True) for it in running]
 
     def __enter__(self):

@@ -13,8 +13,8 @@ import subprocess
 import tempfile
 import time
 
-from advices import told_plainly
-from runs import GENESIS, key_texts, payd, same, shows, with_files
+from support.advices import told_plainly
+from support.runs import GENESIS, key_texts, payd, same, shows, with_files
 
 PATIENCE = 60
 PAUSE = 0.01
@@ -55,25 +55,33 @@ def until(ask, wanted, of):
 IN_MEMORY = "payd: without --data the member lives in memory alone: what ends the node before its input does "
 IN_MEMORY += "loses its account\n"
 
-# what a node says of itself, before that
-START = re.compile(r"payd: member (\d+) of (\d+), genesis ([0-9a-f]{8}), port (\d+)\n")
+# what a node says of itself, before that, and of its folder
+START = re.compile(
+    r"payd: member (\d+)(?: .+)? of (\d+), genesis ([0-9a-f]{8}), port (\d+)(?:, group( \d{5}){12})?\n"
+    r"(?:payd: folder .+\n)?"
+)
 
-# how a node that goes on from its log refuses a payment before enough peers were heard
+# how a node with a folder refuses a payment before enough peers were heard
 EARLY = "refused 6 TooEarly"
-# what it says of its peers on standard error
+# what it says of its peers on standard error, with their names where the group's file has some
 UNOPENED = "sends frames that don't open: another key or another group"
-NEWS = re.compile(rf"payd: peer (\d+) (met|lost|given up|{UNOPENED})\n")
-LIES = re.compile(r"payd: peer (\d+) lied: ([^;\n]*); nothing more is read from it\n")
+NEWS = re.compile(rf"payd: peer (\d+)(?: .+?)? (met|lost|given up|{UNOPENED})\n")
+LIES = re.compile(r"payd: peer (\d+)(?: .+?)? lied: ([^;\n]*); nothing more is read from it\n")
 
 
 def started(errors):
-    """What standard error says behind the line in which a node says who it is."""
+    """What standard error says behind the lines in which a node says who it is and where."""
     return START.sub("", errors, count=1)
 
 
 def news_in(errors):
     """What standard error says of peers."""
     return [(int(peer), word) for peer, word in NEWS.findall(errors)]
+
+
+def met_in(errors):
+    """How many peers it says were met: each has claimed how much it took."""
+    return len({peer for peer, word in news_in(errors) if word == "met"})
 
 
 def lies_in(errors):
@@ -107,10 +115,10 @@ def write_json(folder, name, value):
         json.dump(value, file)
 
 
-def write_member(folder, own=0, genesis=GENESIS, ports=None):
-    """Writes the files of a member with the test keys; the words of a node that name them."""
+def write_member(folder, genesis=GENESIS, ports=None):
+    """Writes the files of member 0 with the test keys; the words of a node that name them."""
     write_json(folder, "genesis", genesis)
-    write_json(folder, "keys", {"own": own, "keys": key_texts(own, genesis["members"])})
+    write_json(folder, "keys", {"own": 0, "keys": key_texts(0, genesis["members"])})
     write_json(folder, "ports", {"ports": ports or free_ports(genesis["members"])})
     return ["node", "--genesis", "genesis", "--keys", "keys", "--ports", "ports"]
 
@@ -142,6 +150,25 @@ def new_words(place, options):
     """The flag of a node whose member is made at this start, if its folder has no log yet."""
     folder = dict(zip(options, options[1:])).get("--data")
     return ["--new"] if folder and not os.path.exists(os.path.join(place, folder, "log")) else []
+
+
+def met(child, peers, seconds=PATIENCE):
+    """Waits until a node says that so many peers were met, says nothing for so many seconds, or ends; its errors until
+    then."""
+    said = b""
+    while met_in(said.decode()) < peers and select.select([child.stderr], [], [], seconds)[0]:
+        piece = os.read(child.stderr.fileno(), 65536)
+        if piece == b"":
+            break
+        said += piece
+    return said
+
+
+def fed(child, text, peers, seconds=PATIENCE):
+    """Gives a node all its lines once so many peers were met: what it wrote, and all its errors."""
+    said = met(child, peers, seconds)
+    output, errors = child.communicate(text, timeout=PATIENCE)
+    return output.decode("ascii"), (said + errors).decode()
 
 
 class Node:
@@ -224,13 +251,19 @@ class Node:
 
     def news(self):
         """What standard error said of peers so far, but of their lies."""
+        return news_in(self.heard())
+
+    def meets(self, peers):
+        """Waits until so many peers were met, or the node ended."""
+        until(lambda: met_in(self.heard()) >= peers or self.child.poll() is not None, True, of=f"peers of {self.own}")
+
+    def heard(self):
         self.hear()
-        return news_in(self.said.decode())
+        return self.said.decode()
 
     def lies(self):
         """What it said of their lies so far."""
-        self.hear()
-        return lies_in(self.said.decode())
+        return lies_in(self.heard())
 
     def hear(self):
         """Takes what standard error said so far."""
@@ -333,18 +366,20 @@ class Group:
             if balances is not None:
                 same(node.balances(), balances, f"the balances at {own}")
 
-    def pay_around(self, orders, at_once=500, paying=None):
-        """Has the members below `paying`, or all, pay 1 to the next of them under these ids, which are the seqs; the
-        seconds until all has settled at those that run. So many of each member are under way at once."""
-        paying, begun = paying or self.members, time.monotonic()
+    def pay_around(self, orders, at_once=500, paying=None, in_one=1):
+        """Has the members below `paying`, or all, pay 1 to the next of them under these ids, which are the seqs, or as
+        often in one value; the seconds until all has settled at those that run. So many values of each member are under
+        way at once."""
+        paying, begun, word = paying or self.members, time.monotonic(), "PAY" if in_one == 1 else "PAYS"
         for first in range(orders.start, orders.stop, at_once):
             some = range(first, min(orders.stop, first + at_once))
             for own in range(paying):
-                self.nodes[own].write("".join(f"PAY {it} {(own + 1) % paying} 1\n" for it in some))
+                pairs = in_one * f" {(own + 1) % paying} 1"
+                self.nodes[own].write("".join(f"{word} {it}{pairs}\n" for it in some))
             for own in range(paying):
                 for it in some:
                     same(self.nodes[own].line(), f"asked {it} seq {it}", f"payment {it} by {own}")
-            self.settle(paying * [some.stop] + (self.members - paying) * [0])
+            self.settle(paying * [some.stop * in_one] + (self.members - paying) * [0])
         return time.monotonic() - begun
 
     def stop(self):

@@ -3,22 +3,23 @@
 import json
 import os
 import random
+import re
 import shutil
 import signal
 import time
 from collections import Counter
 
-from logs import ASK, Log
-from nodes import PATIENCE, Ended, audited
-from restarts import OPENING, Folders, Owner, chosen, end, kill, raise_faults
-from runs import same
+from payd_tools.logs import ASK, Log
+from support.nodes import PATIENCE, Ended, audited
+from support.restarts import OPENING, Folders, Owner, chosen, end, kill, raise_faults
+from support.runs import same
 
 # Every tenth start is from an older copy.
 STARTS = 10
 # Who gets one: one member alone, for a member that has forgotten is one of those that may lie.
 FORGETFUL = 0
 EARLY, FORGOTTEN = "refused 6 TooEarly", "refused 7 Forgotten"
-NOTICED = "payd: log 7 Forgotten\n"
+NOTICED = re.compile(r"^payd: log (7 Forgotten|12 Known)$", re.MULTILINE)
 
 
 class Copied(Owner):
@@ -119,7 +120,8 @@ def judged_start(group, owner, known):
     except (Ended, BrokenPipeError):
         node.end()
     del group.nodes[owner.own]
-    same((node.child.returncode, NOTICED in node.said.decode()), (4, True), f"the end of an older copy: {node.said}")
+    noticed = NOTICED.search(node.said.decode()) is not None
+    same((node.child.returncode, noticed), (4, True), f"the end of an older copy: {node.said}")
     owner.lines.pop()
     owner.values.pop()
     return "noticed while it ran" if is_running else "refused at its start", None

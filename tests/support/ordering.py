@@ -8,8 +8,8 @@ import os
 import re
 from collections import Counter
 
-from frames import WANT, read_frame
-from logs import ASK, QUERY
+from payd_tools.frames import WANT, read_frame
+from payd_tools.logs import ASK, QUERY
 
 ASKED = re.compile(rb"asked \d+ seq (\d+)")
 

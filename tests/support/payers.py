@@ -5,9 +5,9 @@ import random
 import subprocess
 import time
 
-from nodes import until
-from restarts import Folders
-from runs import SECONDS, TOP, same
+from support.nodes import until
+from support.restarts import Folders
+from support.runs import SECONDS, TOP, same
 
 PAY = os.path.join(TOP, "tools", "pay")
 # One is killed so many seconds after its start, at most: it takes about half of this to pay.

@@ -11,7 +11,7 @@ import socket
 import threading
 import time
 
-from frames import HEAD, SEND, WANT, frame, read_frame
+from payd_tools.frames import HEAD, SEND, WANT, claim_on, frame, is_challenge, read_frame
 
 SECONDS = 60
 GREATEST = 2**64 - 1
@@ -54,6 +54,14 @@ def next_want(stream, peer):
     return found[3] if isinstance(found, tuple) and found[:2] == (WANT, peer) and found[5] else None
 
 
+def claims(stream, own, peer):
+    """Answers the challenge that comes first on a connection that a peer dialed: nothing was taken."""
+    number = next_want(stream, peer)
+    if number is None or not is_challenge(number):
+        raise AssertionError(f"{number} is no challenge")
+    stream.sendall(frame(WANT, own, peer, claim_on(number, 0)))
+
+
 def poured(stream, text):
     """Sends as much of a text as the other takes while nobody reads its answers."""
     stream.setblocking(False)
@@ -65,12 +73,13 @@ def poured(stream, text):
 
 
 class Server:
-    """Listens on a port, and hands each connection with the WANT that came first on it to `meet`, which is given or a
-    method."""
+    """Listens on a port, answers challenges, and hands each connection with the first WANT for a place on it to `meet`,
+    which is given or a method. `taken` says how many of a peer's frames it claims to have taken."""
 
-    def __init__(self, own, port, meet=None):
+    def __init__(self, own, port, meet=None, taken=lambda peer: 0):
         self.own = own
         self.meet = meet or self.meet
+        self.taken = taken
         self.streams = []
         self.threads = []
         self.is_over = threading.Event()
@@ -113,7 +122,12 @@ class Server:
             text = received(stream)
             found = text and read_frame(text)
             if isinstance(found, tuple) and found[0] == WANT and found[5]:
-                self.meet(stream, found[1], found[3])
+                peer, number = found[1], found[3]
+                while number is not None and is_challenge(number):
+                    stream.sendall(frame(WANT, self.own, peer, claim_on(number, self.taken(peer))))
+                    number = next_want(stream, peer)
+                if number is not None:
+                    self.meet(stream, peer, number)
         except OSError:
             pass
         finally:
@@ -121,6 +135,38 @@ class Server:
                 if stream in self.streams:
                     self.streams.remove(stream)
             ended(stream)
+
+
+class Claimants:
+    """Peers that claim to have taken nothing, and say nothing else. By enough of them a lone node may pay.
+
+    Each gives its port free once its member is to start there.
+    """
+
+    def __init__(self, ports, owns):
+        self.servers = {own: Server(own, ports[own], says_nothing) for own in owns}
+
+    def __enter__(self):
+        for server in self.servers.values():
+            server.__enter__()
+        return self
+
+    def __exit__(self, *_):
+        self.leave_all()
+
+    def leave_all(self):
+        for own in list(self.servers):
+            self.leave(own)
+
+    def leave(self, own):
+        if own in self.servers:
+            self.servers.pop(own).__exit__()
+
+
+def says_nothing(stream, peer, number):
+    """A connection on which a peer asks for frames that never come."""
+    while stream.recv(4096):
+        pass
 
 
 def ended(stream):

@@ -9,13 +9,19 @@ import signal
 import threading
 import time
 
-from frames import payment, payments
-from nodes import Ended, Group, Node, audited, started, without_lies
-from runs import read_bytes, same
-from values import pairs_in
+from payd_tools.frames import payment, payments
+from payd_tools.values import pairs_in
+from support.nodes import Ended, Group, Node, audited, started, without_lies
+from support.peers import Claimants
+from support.runs import read_bytes, same
 
 NEW = "payd: log: new\n"
 AGAIN = re.compile(r"payd: log: (\d+) entries of (\d+) payments, started again\n")
+FORGOTTEN = "payd: log 7 Forgotten\npayd: the group knows more of this member than its log: look for a newer folder, "
+FORGOTTEN += "on another machine or where this one was copied from, and start that one; only if there is none does its "
+FORGOTTEN += "balance go on in the next group\n"
+KNOWN = "payd: log 12 Known\npayd: others took payments or votes of this member, so a folder of it exists or existed: "
+KNOWN += "start that one; only if it is gone does its balance go on in the next group\n"
 # How many lines an owner gives at once at most, and how many old ones it gives again after a start.
 BURST = 8
 OLD_ONES = 5
@@ -28,12 +34,35 @@ MANY = 500
 
 
 class Folders(Group):
-    """A group whose members live in folders."""
+    """A group whose members live in folders. Those that run at first may pay: where they are too few for that, others
+    claim in place of their nodes (`claiming`), until these start."""
 
     was_killed = False
 
-    def start(self, own, ports="ports", options=(), given=()):
-        options = ["--data", f"data-{own}", "--dials", "always", *options]
+    def __init__(self, opening, running=None, claiming=None, **how):
+        super().__init__(opening, running, **how)
+        # how many peers have to claim before a member pays
+        self.least = (self.members + self.faults) // 2
+        if claiming is None:
+            absent = [own for own in range(self.members) if own not in self.running]
+            claiming = absent[len(absent) - max(0, self.least + 1 - max(1, len(self.running))) :]
+        self.claimants = Claimants(self.ports, claiming)
+
+    def __enter__(self):
+        self.claimants.__enter__()
+        super().__enter__()
+        if len(self.running) + len(self.claimants.servers) > self.least:
+            for node in self.nodes.values():
+                node.meets(self.least)
+        return self
+
+    def __exit__(self, *_):
+        super().__exit__()
+        self.claimants.leave_all()
+
+    def start(self, own, ports="ports", options=(), given=(), folder=None):
+        self.claimants.leave(own)
+        options = ["--data", folder or f"data-{own}", "--dials", "always", *options]
         node = Node(own, self.place.name, ports, options, given=given)
         node.is_killed = False
         self.nodes[own] = node

@@ -4,27 +4,19 @@ import functools
 import json
 import os
 import re
-import resource
 import subprocess
-import sys
 import tempfile
-import threading
-import time
+
+from payd_tools.frames import test_key
+from payd_tools.repository import building
+from support.advices import told_plainly
 
 TOP = os.path.dirname(os.path.dirname(os.path.dirname(os.path.realpath(__file__))))
-sys.path[:0] = [os.path.join(TOP, "examples"), os.path.join(TOP, "tools")]
-
-from advices import told_plainly  # noqa: E402
-
-import building  # noqa: E402
-from frames import test_key  # noqa: E402
 
 SECONDS = 60
-# The least by which a bound of memory grows, in bytes.
-PIECE = 64 * 1024
 
 # What is said of an output that can't be written, by a pipe that nobody reads and by a full disk.
-UNWRITTEN = ("[Errno 32] Broken pipe", "[Errno 28] No space left on device")
+UNWRITTEN = [f"the output can't be written: {it}" for it in ("Broken pipe", "No space left on device")]
 
 # Files of keys are made that nobody else may read: a node says so where others may.
 os.umask(0o077)
@@ -46,7 +38,7 @@ def in_gate():
 
 def heard(errors):
     """What a script that calls ./payd says on standard error, without the line on a program that isn't proved."""
-    return re.sub(r"(?m)^payd: not proved.*\n", "", errors)
+    return re.sub(r"(?m)^payd: (?:UNVERIFIED|not proved).*\n", "", errors)
 
 
 # The surroundings of a script whose output waits in a buffer, as it does unless Python is told otherwise.
@@ -74,32 +66,6 @@ def run(words, stream=b""):
     return call([payd(), *words], stream)
 
 
-def run_within(memory, words, stream=b""):
-    """Status, standard output and standard error of a run that has so many bytes of addresses."""
-
-    def limit():
-        resource.setrlimit(resource.RLIMIT_AS, (memory, memory))
-
-    return call([payd(), *words], stream, preexec_fn=limit)
-
-
-def run_byte_by_byte(stream, words=()):
-    """As run, with each byte written by itself and a pause after it."""
-    child = subprocess.Popen(
-        [payd(), *words], stdin=subprocess.PIPE, stdout=subprocess.PIPE, stderr=subprocess.PIPE, bufsize=0
-    )
-    watchdog = threading.Timer(SECONDS, child.kill)
-    watchdog.start()
-    try:
-        for byte in stream:
-            child.stdin.write(bytes([byte]))
-            time.sleep(0.002)
-        output, errors = child.communicate()
-    finally:
-        watchdog.cancel()
-    return child.returncode, output.decode("ascii"), told_plainly(errors.decode())
-
-
 def same(was, wanted, of):
     if was != wanted:
         raise AssertionError(f"{of}: {was!r} in place of {wanted!r}")
@@ -108,10 +74,6 @@ def same(was, wanted, of):
 def shows(was, status, output, errors="", of="run"):
     """Status, output and errors of a run are these."""
     same(was, (status, output, errors), of)
-
-
-def is_refused(status, errors):
-    return status == 3 and errors.startswith("payd: ") and errors.endswith(" 0 Memory\n")
 
 
 # ---- files

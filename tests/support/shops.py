@@ -8,9 +8,9 @@ import subprocess
 import threading
 import time
 
-from nodes import until
-from restarts import Folders
-from runs import SECONDS, TOP, same
+from support.nodes import until
+from support.restarts import Folders
+from support.runs import SECONDS, TOP, same
 
 SHOP = os.path.join(TOP, "examples", "shop")
 OWN = 1
@@ -24,8 +24,8 @@ LATEST = 0.5
 class Shop:
     """The shop, however often it was started: a line that wasn't answered is given again."""
 
-    def __init__(self, folder):
-        self.words = [SHOP, os.path.join(folder, f"data-{OWN}"), str(OWN), os.path.join(folder, "shop")]
+    def __init__(self, folder, *backs):
+        self.words = [SHOP, os.path.join(folder, f"data-{OWN}"), str(OWN), os.path.join(folder, "shop"), *backs]
         self.child = None
 
     def ask(self, line):
@@ -161,7 +161,8 @@ def shop_is_killed(kills, seed):
     """A shop that is killed so many times, while customers order and pay. How many orders there were, and how many of
     their payments were given back."""
     with Folders(OPENING) as group:
-        shop = Shop(group.place.name)
+        # (however many orders there are, what is paid wrongly for them is given back)
+        shop = Shop(group.place.name, "65536")
         killer, day = Killer(shop, kills, seed), Day(group, shop, seed)
         try:
             killer.start()

@@ -1,0 +1,1 @@
+"""The tools of payd: a module for each, and what they share."""
