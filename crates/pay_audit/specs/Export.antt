@@ -62,7 +62,7 @@ value_of_text text = option_and_then (if_short GREATEST_VALUE) (decoded_bytes (d
 abbrev pub value_said : Data → Option (List ℕ)
 value_said d = option_and_then value_of_text (as_str d)
 
--- the values of a list, if all its items are texts that encode one
+-- the values of a list, if each of its items is a text that encodes a value
 abbrev pub values_said : Items → Option (List (List ℕ))
 values_said no_items = Some []
 values_said (item d ds) =
@@ -106,7 +106,7 @@ is_sized e =
 abbrev pub if_sized : ExportFields → Option ExportFields
 if_sized e = if is_sized e then Some e else None
 
--- what a file contains, if its genesis is one
+-- the export of these parts, if they make a genesis
 abbrev pub export_judgement : ExportFields → Result ExportFields ExportFault
 export_judgement e = option_map_or (λ _. Err BadGenesis) (genesis_fault e.genesis) (Ok e)
 

@@ -5,8 +5,8 @@ use Rattle.pay_link.specs.Genesis.{IsGenesis}
 use Rattle.pay_audit.specs.declared.exported.ExportFault.TheVariants.{BadJson, BadShape, BadGenesis}
 use Rattle.pay_audit.specs.Export.{ExportFields, export_in, parts_in}
 
--- its member is one of the members that the object counts, and each has a list, a front and a
--- balance
+-- The member of an object's parts is one of the members that the object counts. Each of these
+-- members has a list, a front and a balance.
 pub record HasSizes (e : ExportFields) : Type 0 where
   pub member : e.member < e.genesis.members
   pub lists : length e.lists ≡ e.genesis.members
@@ -24,7 +24,7 @@ BadShapeCause =
     ↔ ((d : Data) × (value_in bytes ≡ Some d)
     × ((e : ExportFields) → parts_in d ≡ Some e → ¬ (HasSizes e)))
 
--- the file has these parts, and its genesis is none
+-- the file has these parts, and they make no genesis
 abbrev pub BadGenesisCause : Type 0
 BadGenesisCause =
     (bytes : List ℕ) → (export_in bytes ≡ Err BadGenesis)

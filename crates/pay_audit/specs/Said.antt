@@ -83,7 +83,7 @@ pub record IsFirstWrongBalance (exports : List ExportFields) (x account : ℕ) :
   pub wrong : IsFirstWrongBalanceOf export account
   pub before : EachBefore x HasRightBalances exports
 
--- two lists have different values at this place, and no different ones before it
+-- two lists have different values at this place, and no different values before it
 pub record IsFirstDifference (one other : List (List ℕ)) (place : ℕ) : Type 0 where
   pub value : List ℕ
   pub against : List ℕ

@@ -22,8 +22,8 @@ use std::alloc::{AllocError, Global};
 use std::fmt;
 use std::marker::Model;
 
-/// What is wrong with exports, which are named by their places from 0. It is the first kind of
-/// fault that occurs, and within it the least case in the order of its words.
+/// What is wrong with exports, which are named by their places from 0. A verdict is the first kind
+/// of fault that occurs, and within it the least case in the order of its words.
 #[derive(Clone, Copy, Debug, PartialEq, Eq)]
 pub enum Verdict {
     Clean,

@@ -59,7 +59,7 @@ impl Auditor {
         self.add(alloc, &export)
     }
 
-    /// Judges and settles one more export, and adds it.
+    /// Judges and settles `export`, and adds it.
     fn add(self, alloc: Global, export: &Export) -> Result<Auditor, AllocError>
         requires { taken_by self < usize.MAX }
         ensures taken { IfOk result (λ auditor. (exports : List ExportFields)
@@ -70,8 +70,8 @@ impl Auditor {
         self.with_lists(alloc, wrong, export)
     }
 
-    /// Compares the lists of one more export with the longest up to now, and copies what is longer.
-    /// `wrong` is what is wrong after it is added.
+    /// Compares the lists of `export` with the longest lists up to now, and copies what is longer.
+    /// `wrong` is what is wrong after `export` is added.
     fn with_lists(self, alloc: Global, wrong: Wrong, export: &Export) -> Result<Auditor, AllocError>
         requires count { taken_by self < usize.MAX }
         requires wrong { IsWrongWith self export.now wrong }

@@ -15,7 +15,8 @@ use pay_link::Genesis;
 use pay_pending::WaitingBook;
 use std::alloc::{AllocError, Global};
 
-/// Returns what `member` shows if it has the lists of `source`: all is settled that they allow.
+/// Returns what `member` of `genesis` shows if it has the lists of `source`: all is settled that
+/// the lists allow.
 // promise: group's book
 pub fn export_of_lists<S: Source>(
     alloc: Global,
@@ -71,7 +72,7 @@ fn with_own_book(alloc: Global, export: Export) -> Result<Export, AllocError>
     })
 }
 
-/// Returns the lists of the first `accounts` accounts.
+/// Returns the lists of the first `accounts` accounts of `source`.
 fn lists_from<S: Source>(
     alloc: Global,
     source: &S,

@@ -34,7 +34,7 @@ impl Comparison {
         }
     }
 
-    /// Compares the lists of one more export.
+    /// Compares `lists`, those of one more export.
     pub(crate) fn add(
         mut self,
         alloc: Global,
@@ -53,7 +53,7 @@ impl Comparison {
         Ok(self)
     }
 
-    /// Keeps what is new in lists that agree with the longest.
+    /// Keeps what is new in `lists`, which agree with the longest.
     fn join(mut self, alloc: Global, lists: &[OwnerList]) -> Result<Comparison, AllocError>
         requires { length lists.now ≤ MOST_MEMBERS }
         ensures longest { IfOk result (λ comparison. (account : ℕ)

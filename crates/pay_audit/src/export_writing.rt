@@ -195,7 +195,7 @@ fn add_column<I: Instance + Drop, B: Settle + Drop, W: Output>(
     text.add(writer, b"]");
 }
 
-/// Returns an account's number.
+/// Returns the number of `account` in `column`, as `member` has it.
 fn number_at<I: Instance + Drop, B: Settle + Drop>(
     member: &Member<I, B>,
     column: Column,

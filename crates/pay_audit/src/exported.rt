@@ -79,8 +79,8 @@ impl From<AllocError> for ExportFault {
     }
 }
 
-/// The values of an owner, in its order: no more than it has numbers for. They are stored one after
-/// the other, with the place at which each ends.
+/// The values of an owner, in its order: no more than it has numbers for. The values are stored one
+/// after the other, with the place at which each ends.
 ///
 /// A vector for each would need 40 percent more memory.
 #[derive(Debug, Drop)]

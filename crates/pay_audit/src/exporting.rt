@@ -49,7 +49,7 @@ pub fn export<I: Instance + Drop, B: Settle + Drop>(
     Ok(Value::Object(parts))
 }
 
-/// Puts `genesis` into an object that has nothing yet.
+/// Puts `genesis` into `parts`, an object that has nothing yet.
 pub(crate) fn put_genesis(
     alloc: Global,
     parts: &mut Map<String, Value>,
@@ -63,7 +63,8 @@ pub(crate) fn put_genesis(
     put(parts, alloc, "opening", opening_of(alloc, genesis)?)
 }
 
-/// Puts the member's number, and the contents of its ledger, into an object that has the genesis.
+/// Puts the number of `member`, and the contents of its ledger, into `parts`, an object that has
+/// the genesis.
 #[tactic(auto, unfolding(crate::specs::Exporting::export_data))]
 fn put_book<I: Instance + Drop, B: Settle + Drop>(
     alloc: Global,
@@ -90,7 +91,7 @@ fn opening_of(alloc: Global, genesis: &Genesis) -> Result<Value, AllocError>
     Ok(Value::Array(numbers))
 }
 
-/// Returns how many entries are settled of each account.
+/// Returns how many entries of each account are settled in the ledger of `member`.
 fn front_of<I: Instance + Drop, B: Settle + Drop>(
     alloc: Global,
     member: &Member<I, B>,

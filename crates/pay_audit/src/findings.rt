@@ -39,7 +39,7 @@ pub(crate) fn push_name(out: &mut Vec<u8>, named: Named<'_>) -> Result<(), Alloc
     push_word(out, named.name)
 }
 
-/// Appends the entries of a value to `out`.
+/// Appends the entries of `value`, in the list of `owner` among `members` accounts, to `out`.
 pub(crate) fn push_entries(
     out: &mut Vec<u8>,
     members: u16,
@@ -94,8 +94,8 @@ impl Wrong {
         self.genesis.is_none() && self.front.is_none() && self.balance.is_none()
     }
 
-    /// Returns these findings, with what is wrong with the export at `place`. `genesis` is that of
-    /// the first export, if this isn't the first itself.
+    /// Returns these findings, with what is wrong with `export` at `place`. `genesis` is the
+    /// genesis of the first export, if `export` isn't the first itself.
     pub(crate) fn with(
         self,
         alloc: Global,
@@ -165,7 +165,7 @@ fn other_genesis_than(genesis: &Option<Genesis>, place: usize, export: &Export) 
     }
 }
 
-/// Appends what is wrong with the fronts and the balances of each export to `out`.
+/// Appends what is wrong with the fronts and the balances of each export in `group` to `out`.
 pub(crate) fn push_books(
     alloc: Global,
     out: &mut Vec<u8>,

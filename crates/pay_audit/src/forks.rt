@@ -12,7 +12,7 @@ use pay_channel::Source;
 use pay_text::{push_number, push_word};
 use std::alloc::AllocError;
 
-/// Appends the forks of each account to `out`.
+/// Appends the forks between the exports of `group`, for each of the `members` accounts, to `out`.
 pub(crate) fn push_forks(
     out: &mut Vec<u8>,
     members: u16,

@@ -12,9 +12,9 @@ ghost use Rattle.pay_audit.specs.Said.{CleanIsJudged, VerdictIsSaid};
 use pay_book::laws::{largest_is_computed, largest_is_one, settled_book_exists, single_entries};
 use pay_link::laws::genesis_limits;
 
-/// States the faults of an export file. It isn't JSON exactly if it has no value. It has a wrong
-/// shape exactly if its value lacks a part of an export or has a part of another size. It has no
-/// genesis exactly if the genesis that it contains is none.
+/// States the faults of an export file. The file isn't JSON exactly if it has no value. It has a
+/// wrong shape exactly if its value lacks a part of an export or has a part of another size. It has
+/// no genesis exactly if the genesis that it contains is none.
 // promise: exports
 pub fn export_file_faults()
     ensures json { BadJsonCause }
@@ -58,8 +58,8 @@ pub fn one_list_is_no_fork()
     ensures { OneListIsNoFork }
 {}
 
-/// States that the verdict of exports is true: nothing is wrong, or the case that it names is the
-/// first of the first kind that occurs. It is Clean exactly if nothing is wrong.
+/// States that the verdict of exports is true: nothing is wrong, or the case that the verdict names
+/// is the first of the first kind that occurs. The verdict is Clean exactly if nothing is wrong.
 // promise: audits
 pub fn verdict_is_judged()
     ensures said { VerdictIsSaid }

@@ -60,7 +60,7 @@ impl Model for Parts {
     ghost invariant = { λ e. AreShort e.lists.items };
 }
 
-/// Returns all parts, if the object has them.
+/// Returns all parts of the object `value`, if it has them.
 #[tactic(auto, unfolding(crate::specs::Export::parts_in))]
 pub(crate) fn parts_in(alloc: Global, value: &Value) -> Result<Option<Parts>, AllocError>
     ensures { IfOk result (λ parts. parts ≡ export.parts_in (view value.now)) }
@@ -120,7 +120,7 @@ fn lists_in(alloc: Global, value: &Value) -> Result<Option<Vec<OwnerList>>, Allo
     lists_said(alloc, items.as_slice())
 }
 
-/// Returns all lists, if each item contains one.
+/// Returns all lists, if each of `items` contains one.
 fn lists_said(alloc: Global, items: &[Value]) -> Result<Option<Vec<OwnerList>>, AllocError>
     ensures value { IfOk result (λ lists.
         option_map (λ l. l.items) lists ≡ export.lists_said (items_view items.now)) }
@@ -136,7 +136,7 @@ fn lists_said(alloc: Global, items: &[Value]) -> Result<Option<Vec<OwnerList>>, 
     Ok(Some(lists))
 }
 
-/// Returns the values of an owner.
+/// Returns the list of an owner that `value` contains, if it contains one.
 #[tactic(auto, unfolding(crate::specs::Export::list_said))]
 fn list_in(alloc: Global, value: &Value) -> Result<Option<OwnerList>, AllocError>
     ensures value { IfOk result (λ list. list ≡ export.list_said (view value.now)) }
@@ -161,7 +161,7 @@ fn values_in(alloc: Global, value: &Value) -> Result<Option<Vec<Bytes>>, AllocEr
     values_said(alloc, items.as_slice())
 }
 
-/// Returns all values, if each item contains one.
+/// Returns all values, if each of `items` contains one.
 fn values_said(alloc: Global, items: &[Value]) -> Result<Option<Vec<Bytes>>, AllocError>
     ensures { IfOk result (λ values.
         option_map (λ v. v.items) values ≡ export.values_said (items_view items.now)) }
@@ -176,7 +176,7 @@ fn values_said(alloc: Global, items: &[Value]) -> Result<Option<Vec<Bytes>>, All
     Ok(Some(values))
 }
 
-/// Returns the value that a text encodes.
+/// Returns the value that the text `value` encodes, if it encodes one.
 fn value_said(alloc: Global, value: &Value) -> Result<Option<Bytes>, AllocError>
     ensures { IfOk result (λ bytes. bytes ≡ export.value_said (view value.now)) }
 {

@@ -74,8 +74,8 @@ impl From<AllocError> for ReplayFault {
     }
 }
 
-/// Returns the member that has this `history`, if a member can have it. The keys belong to a member
-/// of `genesis`.
+/// Returns the member that has this `history`, if a member can have it. The `keys` belong to a
+/// member of `genesis`.
 // promise: replay
 pub fn replay<I: Instance + Drop, B: Settle + Drop>(
     alloc: Global,
@@ -94,7 +94,7 @@ pub fn replay<I: Instance + Drop, B: Settle + Drop>(
     Ok(member)
 }
 
-/// Returns a member that has no history yet.
+/// Returns a member of `genesis` with these `keys` that has no history yet.
 fn fresh<I: Instance + Drop, B: Settle + Drop>(
     alloc: Global,
     genesis: &Genesis,
@@ -108,8 +108,8 @@ fn fresh<I: Instance + Drop, B: Settle + Drop>(
     Member::new(alloc, genesis, keys.copy(alloc)?)
 }
 
-/// Replays entries, up to the first that isn't the one owed. After that the member may not be used
-/// further.
+/// Replays `entries` at `member`, up to the first that isn't the one owed. After that entry
+/// `member` may not be used further.
 fn take_all_again<I: Instance + Drop, B: Settle + Drop>(
     alloc: Global,
     member: &mut Member<I, B>,
@@ -129,8 +129,8 @@ fn take_all_again<I: Instance + Drop, B: Settle + Drop>(
     Ok(())
 }
 
-/// Replays `entry`, and returns whether it is the one owed. If it isn't, the member may not be used
-/// further.
+/// Replays `entry` at `member`, and returns whether it is the one owed. If it isn't, `member` may
+/// not be used further.
 fn take_again<I: Instance + Drop, B: Settle + Drop>(
     alloc: Global,
     member: &mut Member<I, B>,

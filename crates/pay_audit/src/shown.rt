@@ -79,7 +79,7 @@ fn value_of(alloc: Global, export: &Export) -> Result<Value, AllocError>
     Ok(Value::Object(parts))
 }
 
-/// Puts the contents of an export's ledger into an object that has the genesis.
+/// Puts the contents of the ledger of `export` into `parts`, an object that has the genesis.
 #[tactic(auto, unfolding(crate::specs::Exporting::export_data))]
 fn put_book(
     alloc: Global,

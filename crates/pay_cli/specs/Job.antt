@@ -33,14 +33,14 @@ check_app =
     (option_rule (codes "keys")))
     (flag_rule (codes "values"))
 
--- `desk`, which needs both
+-- `desk`, which needs a genesis and keys
 abbrev pub desk_app : App
 desk_app =
     with_rule (with_rule (new_app (codes "desk")) (required_rule (codes "genesis")))
     (required_rule (codes "keys"))
 
--- `node`, which needs both, and ports. It may have dials, a pipelining depth, a folder, flags to
--- make the member there and to stay with it, and a socket
+-- `node`, which needs a genesis, keys and ports. It may have dials, a pipelining depth, a folder,
+-- flags to make the member there and to stay with it, and a socket
 abbrev pub node_app : App
 node_app =
     with_rule
@@ -60,7 +60,7 @@ node_app =
     (flag_rule (codes "stay")))
     (option_rule (codes "socket"))
 
--- `export`, which needs both, and a folder
+-- `export`, which needs a genesis, keys and a folder
 abbrev pub export_app : App
 export_app =
     with_rule

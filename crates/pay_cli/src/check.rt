@@ -166,7 +166,7 @@ fn push_judged<T: Tagger>(
     }
 }
 
-/// Appends what becomes of an authenticated frame to `out`.
+/// Appends what becomes of `frame`, which is authenticated, to `out`.
 fn push_opened(out: &mut Vec<u8>, fronts: &mut Fronts, frame: &FrameRef) -> Result<(), AllocError>
     requires known { (fields_of frame.now).from < length fronts.old }
     requires room { slice_index fronts.old (fields_of frame.now).from + 1 < 2 ^ 64 }
@@ -230,9 +230,9 @@ impl<T: Tagger> FrameHandler<Progress> for Checking<'_, T> {
     }
 }
 
-/// Reads frames to the input's end. It writes what the member of `checker` would make of each frame
-/// and, if that is requested, what its value pays. The text is that of all bytes that were read,
-/// however they come in pieces.
+/// Reads frames to the input's end. The loop writes what the member of `checker` would make of each
+/// frame and, if that is requested, what the frame's value pays. The text is that of all bytes that
+/// were read, however they come in pieces.
 ///
 /// A fault in the frames ends the text with its line, and is returned. After another fault, a
 /// prefix of the text has been written.

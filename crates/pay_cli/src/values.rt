@@ -32,7 +32,7 @@ pub fn push_told(
     push_pays(out, checker.keys.members(), owner, value)
 }
 
-/// Appends the line about a value to `out`: what it pays in the list of `owner`, among this many
+/// Appends the line about `value` to `out`: what it pays in the list of `owner`, among this many
 /// `accounts`.
 fn push_pays(out: &mut Vec<u8>, accounts: u16, owner: u16, value: &[u8]) -> Result<(), AllocError>
     ensures { OnOk result (out.new.items ≡ out.old.items ++ pays_line accounts owner value.now) }
@@ -42,7 +42,7 @@ fn push_pays(out: &mut Vec<u8>, accounts: u16, owner: u16, value: &[u8]) -> Resu
     push_word(out, "\n")
 }
 
-/// Appends what each entry of a value pays, and to whom.
+/// Appends what each entry of `value` pays, and to whom, to `out`.
 fn push_entries(
     out: &mut Vec<u8>,
     accounts: u16,

@@ -22,15 +22,15 @@ use std::alloc::{AllocError, Global};
 /// What the program is told to do.
 #[derive(Drop)]
 pub enum Job<'a> {
-    /// Judge the frames on standard input, as a member of this genesis with these keys. Each is
-    /// read from the file of this name. Tell what values pay, if that is requested.
+    /// Judge the frames on standard input, as a member of this genesis with these keys. Genesis and
+    /// keys are each read from the file of this name. Tell what values pay, if that is requested.
     Check {
         genesis: Option<&'a str>,
         keys: Option<&'a str>,
         tells_values: bool,
     },
-    /// Answer the lines on standard input, as the desk of the member with these keys. Each is read
-    /// from the file of this name.
+    /// Answer the lines on standard input, as the desk of the member with these keys. Genesis and
+    /// keys are each read from the file of this name.
     Desk {
         genesis: &'a str,
         keys: &'a str,
@@ -226,7 +226,7 @@ fn book_job<'a>(alloc: Global, book: &ArgMatches<'a>) -> Result<Job<'a>, AllocEr
     })
 }
 
-/// Returns the names of files that a command was given.
+/// Returns the names of files that `command` was given.
 fn files_in<'a>(alloc: Global, command: &ArgMatches<'a>) -> Result<Vec<&'a str>, AllocError>
     ensures { IfOk result (λ files.
         map (λ name. name.now) files.items ≡ files_of (rows_of (found_of command.now))) }
@@ -275,7 +275,7 @@ fn is_set(matches: &ArgMatches, flag: &str) -> bool
     }
 }
 
-/// Returns the value of a required option: the words aren't read without it.
+/// Returns the value of a required `option`: the words aren't read without it.
 fn required_value<'a>(matches: &ArgMatches<'a>, option: &str) -> &'a str
     ensures { result.now ≡ required_text option.now (rows_of (found_of matches.now)) }
 {
@@ -300,7 +300,7 @@ fn payd<'a>(alloc: Global) -> Result<Command<'a>, AllocError>
     )
 }
 
-/// Returns the program with one more command, if both could be made.
+/// Returns `program` with one more `command`, if both could be made.
 fn with_command<'a>(
     program: Result<Command<'a>, AllocError>,
     command: Result<Command<'a>, AllocError>,
@@ -438,42 +438,42 @@ fn journal<'a>(alloc: Global) -> Result<Command<'a>, AllocError>
         .arg(option(alloc, "date", "YYYY-MM-DD", "The date of all transactions"))
 }
 
-/// Returns a command without options, and the text of its help.
+/// Returns the command `name` without options, with the text of its `help`.
 fn titled_command<'a>(alloc: Global, name: &'a str, about: &'a str, help: &'a str) -> Command<'a>
     ensures { IsCommand result (new_app name.entry.now) }
 {
     Command::new(alloc, name).about(about).after_help(help)
 }
 
-/// Returns an option with the name of a file.
+/// Returns the option `name`, with the name of a file.
 fn file_option<'a>(alloc: Global, name: &'a str, help: &'a str) -> Arg<'a>
     ensures { IsArgument result (option_rule name.entry.now) }
 {
     option(alloc, name, "FILE", help)
 }
 
-/// Returns an option with a word.
+/// Returns the option `name`, with a `word`.
 fn option<'a>(alloc: Global, name: &'a str, word: &'a str, help: &'a str) -> Arg<'a>
     ensures { IsArgument result (option_rule name.entry.now) }
 {
     Arg::new(alloc, name).long(name).value_name(word).help(help)
 }
 
-/// Returns a required option with the name of a file.
+/// Returns the required option `name`, with the name of a file.
 fn required_file<'a>(alloc: Global, name: &'a str, help: &'a str) -> Arg<'a>
     ensures { IsArgument result (required_rule name.entry.now) }
 {
     file_option(alloc, name, help).required(true)
 }
 
-/// Returns a required option with the name of a folder.
+/// Returns the required option `name`, with the name of a folder.
 fn required_folder<'a>(alloc: Global, name: &'a str, help: &'a str) -> Arg<'a>
     ensures { IsArgument result (required_rule name.entry.now) }
 {
     option(alloc, name, "FOLDER", help).required(true)
 }
 
-/// Returns an option without a word.
+/// Returns the option `name`, without a word.
 fn flag<'a>(alloc: Global, name: &'a str, help: &'a str) -> Arg<'a>
     ensures { IsArgument result (flag_rule name.entry.now) }
 {

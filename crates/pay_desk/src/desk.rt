@@ -33,7 +33,8 @@ pub struct Desk<T> {
 }
 
 impl<T: Teller> Desk<T> {
-    /// Creates a desk without submitted values, over a teller of account `own` among `accounts`.
+    /// Creates a desk without submitted values, over `teller`, the teller of account `own` among
+    /// `accounts`.
     // promise: desk lines
     pub fn new(alloc: Global, teller: T, accounts: u16, own: u16) -> Desk<T>
         ensures { result ≡ record { teller = teller; accounts = accounts; own = own; kept = [] } }

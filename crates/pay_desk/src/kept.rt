@@ -122,8 +122,8 @@ impl KeptValues {
         Ok(())
     }
 
-    /// Has `teller` broadcast a value, and keeps it as submitted. A lack of memory is reported
-    /// before the teller is called, or by the teller. A refused value isn't kept.
+    /// Has `teller` broadcast `value`, and keeps it as submitted under `id`. A lack of memory is
+    /// reported before the teller is called, or by the teller. A refused value isn't kept.
     // promise: asked once; ids (replied)
     pub fn ask<T: Teller>(
         &mut self,

@@ -153,8 +153,8 @@ pub(crate) fn refused_text(alloc: Global, fault: DeskFault) -> Result<Vec<u8>, A
     Ok(text)
 }
 
-/// Returns the answer to an id that is kept: the submitted value gets the answer that it got
-/// before.
+/// Returns the answer to a line with the `id` that `kept` is kept under. If `value` is the
+/// submitted value, it gets the answer that it got before. Any other value is refused.
 pub(crate) fn kept_text(
     alloc: Global,
     kept: &Kept,

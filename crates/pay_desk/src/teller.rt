@@ -24,8 +24,8 @@ pub trait Teller {
     // The values that were broadcast through it, oldest first.
     ghost asked: { Self → List (List ℕ) };
 
-    /// Broadcasts a value of the account's own, of at most 1,024 bytes, and returns its number. It
-    /// was submitted under `id`, which the teller may note.
+    /// Broadcasts `value`, a value of the account's own, of at most 1,024 bytes, and returns its
+    /// number. The value was submitted under `id`, which the teller may note.
     // promise: tellers
     fn ask(&mut self, alloc: Global, id: u64, value: Bytes) -> Result<u32, TellerFault>
         requires { length value ≤ GREATEST_VALUE }

@@ -104,7 +104,8 @@ fn push_end(out: &mut Vec<u8>, account: u16, balance: u64) -> Result<(), AllocEr
     push_word(out, "\n")
 }
 
-/// Appends a line for each settled entry, and the number of the next, to `out`.
+/// Appends a line for each settled entry of `account` in `excerpt`, and the number of the next, to
+/// `out`.
 #[tactic(auto, unfolding(crate::specs::Words::settled_words))]
 pub(crate) fn push_settled(
     out: &mut Vec<u8>,
@@ -119,7 +120,8 @@ pub(crate) fn push_settled(
     push_next(out, account, excerpt.first() + entries.len() as u64)
 }
 
-/// Appends a line for each entry that waits, and what the balance lacks for the first, to `out`.
+/// Appends a line for each entry of `account` in `excerpt` that waits, and what the balance lacks
+/// for the first, to `out`.
 #[tactic(auto, unfolding(crate::specs::Words::waiting_words))]
 pub(crate) fn push_waiting(
     out: &mut Vec<u8>,

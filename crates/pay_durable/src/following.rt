@@ -46,7 +46,7 @@ impl<D: Device> Model for Following<D> {
 }
 
 impl<D: Device + Drop> Following<D> {
-    /// Creates a log that has the records of `count` entries.
+    /// Creates a log from `log`, which has the records of `count` entries.
     pub(crate) fn new(alloc: Global, log: Log<D>, count: usize) -> Following<D>
         requires { AllKnown D.is_known
             → IsFollowingSome D.is_known D.seen D.may_leave log [] count }

@@ -21,8 +21,8 @@ pub trait Keeper {
     // Says that this many entries are on the disk.
     ghost has: { Self → ℕ → Type 0 };
 
-    /// Waits until all that the node's history has at the call is on the disk. Returns `false` if
-    /// that failed: from then on nothing leaves the node.
+    /// Waits until all that the history of `node` has at the call is on the disk. Returns `false`
+    /// if that failed: from then on nothing leaves the node.
     fn keep<R: Wait, S: Beginning>(&self, rt: &R, node: &Node<S>) -> bool
         ensures { IsTrue result → kept self.now node.now };
 
@@ -32,8 +32,8 @@ pub trait Keeper {
     fn has_entries<R: Wait>(&self, rt: &R, entries: usize) -> bool
         ensures { IsTrue result → HasAtLeast (has self.now) entries };
 
-    /// Notes the `id` of the owner's next payment, before it is submitted to the node. Its value
-    /// will have the number `seq`, if it gets one.
+    /// Notes the `id` of the owner's next payment, before the payment is submitted to the node. Its
+    /// value will have the number `seq`, if it gets one.
     fn order<R: Wait>(&self, rt: &R, seq: u32, id: u64) -> Result<(), AllocError>;
 
     /// Returns how many entries of the history are on the disk, if they are kept there and the
@@ -101,7 +101,7 @@ impl<W> WithheldOutput<W> {
 }
 
 impl<W: Output> WithheldOutput<W> {
-    /// Writes `bytes`, after this gate said that it has this node's history.
+    /// Writes `bytes`, after `keeper` said that it has the history of `node`.
     // promise: nothing is lost
     pub(crate) fn write<K: Keeper, S: Beginning>(
         &mut self,
@@ -124,7 +124,8 @@ impl<W: Output> WithheldOutput<W> {
 /// An output that is written to only after its durability gate has kept all of the node's history.
 /// If that fails, its writes fail.
 ///
-/// It owns the output: nothing is known about a struct that holds a `&mut` after a loop had it.
+/// This struct owns the output: nothing is known about a struct that holds a `&mut` after a loop
+/// had it.
 #[derive(Drop)]
 pub struct DurableOutput<'a, R, K, S: Beginning, W> {
     rt: &'a R,

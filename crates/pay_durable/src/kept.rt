@@ -57,8 +57,8 @@ pub struct Kept<D: Device> {
 }
 
 impl<D: Device + Drop> Kept<D> {
-    /// Creates the gate of a node with this log, which has the first `count` entries of a member's
-    /// history. The ids of the submitted values in it aren't looked at again.
+    /// Creates the gate of a node with `log`, which has the first `count` entries of a member's
+    /// history. The ids of the submitted values in these entries aren't looked at again.
     pub fn new(alloc: Global, log: Log<D>, count: usize) -> Kept<D>
         requires { AllKnown D.is_known
             → IsFollowingSome D.is_known D.seen D.may_leave log [] count }

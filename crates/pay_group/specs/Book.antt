@@ -21,7 +21,7 @@ use Rattle.pay_group.specs.declared.booking.BookFault.TheVariants.{Split}
 abbrev pub listed_by : List ExportFields → ℕ → List (List (List ℕ))
 listed_by exports account = map (λ e. lists_of e account) exports
 
--- each of them belongs to a group of `members` members
+-- each of the exports belongs to a group of `members` members
 abbrev pub AreOfSize : ℕ → List ExportFields → Type 0
 AreOfSize members exports =
     (x : ℕ) (e : ExportFields) → slice_get exports x ≡ Some e → e.genesis.members ≡ members

@@ -57,8 +57,8 @@ abbrev pub GroupBookIsSettled : Type 0
 GroupBookIsSettled =
     (exports : List ExportFields) (b : ExportFields) → IsGroupBook exports b → HasRightFront b
 
--- The next genesis is one. Each account opens with its balance at the ledger's front, which so
--- isn't below zero, and all open with what all opened with before.
+-- The next genesis is a genesis. Each account opens with its balance at the ledger's front, so this
+-- balance isn't below zero. All accounts together open with what they opened with before.
 pub record IsNextGenesis (b : ExportFields) : Type 0 where
   pub genesis : IsGenesis (next_genesis b)
   pub total : sum (next_genesis b).opening ≡ sum b.genesis.opening

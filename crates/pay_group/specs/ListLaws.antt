@@ -11,7 +11,7 @@ ListOrSplit =
     (f : ℕ) (lists : List (List (List ℕ))) → f < length lists
     → ((l : List (List ℕ)) × IsGroupList f lists l) ⊎ ((place : ℕ) × IsSplit f lists place)
 
--- they never have both, nor two lists
+-- lists never have two group's lists, nor both a group's list and a split
 abbrev pub OneGroupList : Type 0
 OneGroupList =
     (f : ℕ) (lists : List (List (List ℕ))) (l m : List (List ℕ))

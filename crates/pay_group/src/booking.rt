@@ -75,8 +75,8 @@ pub fn group_book(alloc: Global, exports: &[Export]) -> Result<Export, BookFault
     settled_book(alloc, exports, first)
 }
 
-/// Returns the ledger of exports of one genesis and of different members. There are more of them
-/// than there may be faulty members.
+/// Returns the ledger of `exports`, which have one genesis and belong to different members. There
+/// are more exports than there may be faulty members. `first` is the first of them.
 fn settled_book(alloc: Global, exports: &[Export], first: &Export) -> Result<Export, BookFault>
     requires first { slice_get exports.now 0 ≡ Some first.now }
     requires are { AreOfGroup first.now.genesis exports.now }

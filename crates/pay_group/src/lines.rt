@@ -18,7 +18,8 @@ use pay_channel::Source;
 use pay_text::{push_number, push_word};
 use std::alloc::{AllocError, Global};
 
-/// Returns the entries of an account's list in their order, each with the number of its value.
+/// Returns the entries in the list of `account` in `source`, in their order, each with the number
+/// of its value.
 pub(crate) fn numbered_entries<S: Source>(
     alloc: Global,
     source: &S,
@@ -84,7 +85,7 @@ fn push_account(out: &mut Vec<u8>, book: &Export, account: u16) -> Result<(), Al
     push_word(out, "\n")
 }
 
-/// Appends what waits, account by account, to `out`.
+/// Appends what waits in `book`, account by account, to `out`.
 pub(crate) fn push_all_waiting(
     alloc: Global,
     out: &mut Vec<u8>,
@@ -219,7 +220,7 @@ fn push_short(out: &mut Vec<u8>, balance: u64, entry: Entry) -> Result<(), Alloc
     }
 }
 
-/// Appends what is beyond the ledger, export by export, to `out`.
+/// Appends what is beyond the ledger `book`, for each of the `exports`, to `out`.
 pub(crate) fn push_all_exports(
     out: &mut Vec<u8>,
     book: &Export,

@@ -18,7 +18,7 @@ pub(crate) fn has<S: Source>(source: &S, owner: u16, place: u32, value: &[u8]) -
     place < source.length(owner) && value == source.at(owner, place)
 }
 
-/// Returns how many sources list `value` there.
+/// Returns how many of the `sources` list `value` of `owner` at `place`.
 pub(crate) fn support<S: Source>(sources: &[&S], owner: u16, place: u32, value: &[u8]) -> usize
     ensures { result ≡ count_by (λ s. has_at place value.now (S.lists s.now owner)) sources.now }
 {
@@ -28,7 +28,7 @@ pub(crate) fn support<S: Source>(sources: &[&S], owner: u16, place: u32, value: 
         .count()
 }
 
-/// Returns the first value at `place` that more than `faults` sources list.
+/// Returns the first value of `owner` at `place` that more than `faults` of the `sources` list.
 pub(crate) fn supported_value<'a, S: Source>(
     sources: &[&'a S],
     owner: u16,
@@ -51,7 +51,8 @@ pub(crate) fn supported_value<'a, S: Source>(
     None
 }
 
-/// Returns whether more than `faults` sources list another value than `value` there.
+/// Returns whether more than `faults` of the `sources` list another value of `owner` than `value`
+/// at `place`.
 pub(crate) fn is_disputed<S: Source>(
     sources: &[&S],
     owner: u16,
@@ -121,7 +122,7 @@ impl<S: Source> GroupList<'_, S> {
         self.len
     }
 
-    /// Returns the value at a place.
+    /// Returns the value at `place`.
     pub(crate) fn at(&self, place: u32) -> &[u8]
         requires { place < length self.now }
         ensures { slice_get self.now place ≡ Some result.now }
@@ -130,9 +131,9 @@ impl<S: Source> GroupList<'_, S> {
     }
 }
 
-/// Returns what more than `faults` of the sources list for an account: the longest list that they
-/// begin with. If there are two such lists the fault says so, with the first number at which they
-/// differ.
+/// Returns what more than `faults` of the `sources` list for the account `owner`: the longest list
+/// that they begin with. If there are two such lists the fault says so, with the first number at
+/// which they differ.
 pub(crate) fn group_list<'a, S: Source>(
     alloc: Global,
     sources: &[&'a S],
@@ -211,9 +212,9 @@ impl<'a, S: Source> Model for GroupLists<'a, S> {
     ghost view = { λ g. g.lists.items };
 }
 
-/// Returns what more than `faults` of the sources list for each account: the longest list that they
-/// begin with. If two values follow one prefix, each with more than `faults` sources, the fault
-/// names account and number. No earlier account has two such values.
+/// Returns what more than `faults` of the `sources` list for each of the `accounts` accounts: the
+/// longest list that they begin with. If two values follow one prefix, each with more than `faults`
+/// sources, the fault names the account and the number. No earlier account has two such values.
 // promise: group's book
 pub fn group_lists<'a, S: Source>(
     alloc: Global,

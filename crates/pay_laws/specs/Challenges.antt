@@ -28,7 +28,7 @@ step_of (Starts m nonces) = None
 step_of (Claims p m nonce) = None
 step_of (Notes m p nonce taken) = None
 
--- the steps of the group in such a list
+-- the steps of the group among these happenings
 abbrev pub steps_in : List Happening → List Step
 steps_in happenings = filter_map step_of happenings
 

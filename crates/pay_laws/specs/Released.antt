@@ -30,8 +30,8 @@ pub record IsWitness (w : Setting) (t : MemberStart) (c : ComparingFields) (p : 
   pub taken : ℕ
   pub claim : slice_get c.claims p ≡ Some (Some taken)
 
--- If more than f correct members have accepted more from a member than it began with, and it noted
--- a claim of each, it finds that it has lost state, whatever the others claim.
+-- Suppose that more than f correct members have accepted more from a member than it began with, and
+-- that it noted a claim of each. Then it finds that it has lost state, whatever the others claim.
 abbrev pub LossIsFound : Type 0
 LossIsFound =
     (w : Setting) (t : MemberStart) (c : ComparingFields) (witnesses : ℕ → Bool)
@@ -54,10 +54,10 @@ pub record IsTakenAmong (w : Setting) (happenings : List Happening) (m many : �
   pub taken :
       Contains (take many (taken_bodies m (history_by_steps w (steps_in until) member))) body
 
--- A member that lost state is one of the faulty. If it is cleared, and a correct member had
--- delivered a value of its account by its start, some correct member accepted the value's SEND
--- among as many first bodies as the member began with. This holds however often and whichever
--- members start again.
+-- A member that lost state is one of the faulty. Suppose that it is cleared, and that a correct
+-- member had delivered a value of its account by its start. Then some correct member accepted the
+-- value's SEND among as many first bodies as the member began with. This holds however often and
+-- whichever members start again.
 abbrev pub ReleasedHasDelivered : Type 0
 ReleasedHasDelivered =
     (w : Setting) (t : MemberStart) (c : ComparingFields) (i seq : ℕ) (v : List ℕ)

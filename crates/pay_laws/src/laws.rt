@@ -114,9 +114,9 @@ pub fn noted_claims_are_compared()
     ensures held { NotedIsHeld }
 {}
 
-/// States that a member finds that it has lost state if more than f correct members have accepted
-/// more from it than it began with, and it noted a claim of each on a fresh nonce. The claims of
-/// all others don't change that.
+/// States when a member finds that it has lost state. Suppose that more than f correct members have
+/// accepted more from it than it began with, and that it noted a claim of each on a fresh nonce.
+/// Then it finds the loss, whatever all others claim.
 // promise: comparing
 pub fn loss_is_found()
     ensures { LossIsFound }

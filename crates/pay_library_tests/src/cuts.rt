@@ -13,7 +13,7 @@ type Piece = (&'static str, usize);
 
 /// What is done to a cutter, and what it gives. The numbers are places of the whole stream.
 enum Step {
-    /// The bytes between two places are offered, and so many are taken.
+    /// The bytes between two places are offered, and this many of them are taken.
     Feed(usize, usize, usize),
     /// The next frame is the bytes between two places.
     Frame(usize, usize),
@@ -128,7 +128,7 @@ fn is_spelled(frame: &FrameRef<'_>, bytes: &[u8]) -> bool {
     frame.head() == head && frame.value() == value && frame.tag() == tag
 }
 
-/// Whether these bytes are the next frame; nothing, where there is none yet.
+/// Returns whether `bytes` are the next frame, or `None` if there is no whole frame yet.
 fn is_next(cutter: &mut Cutter, bytes: &[u8]) -> Result<Option<bool>, FrameFault>
     requires { cutter.old.met ≡ None }
     ensures met { OnOk result (cutter.new.met ≡ None) }
@@ -165,7 +165,7 @@ impl Step {
     }
 }
 
-/// What `end` answers, where no whole frame is in front.
+/// Returns the result of `end`, or `None` if a whole frame stands in front.
 fn end(cutter: &mut Cutter) -> Option<Result<(), FrameFault>>
     requires { cutter.old.met ≡ None }
 {
@@ -185,7 +185,8 @@ fn join_pieces(alloc: Global, pieces: &[Piece]) -> Result<Vec<u8>, Fail> {
     Ok(stream)
 }
 
-/// The first step of a run that isn't met, or how many there are where the end isn't.
+/// Returns the index of the first step of `run` that isn't met. If only the end isn't met, it
+/// returns the count of steps.
 fn unmet_in(cutter: &mut Cutter, stream: &[u8], run: &Run) -> Result<Option<usize>, FrameFault>
     requires { cutter.old.met ≡ None }
 {
@@ -197,7 +198,7 @@ fn unmet_in(cutter: &mut Cutter, stream: &[u8], run: &Run) -> Result<Option<usiz
     Ok((end(cutter) != Some(run.end)).then_some(run.steps.len()))
 }
 
-/// The same of a new cutter.
+/// Returns the first step of `run` that isn't met with a new cutter, as `unmet_in` does.
 fn unmet(alloc: Global, run: &Run) -> Result<Option<usize>, Fail> {
     let stream = join_pieces(alloc, run.stream)?;
     let mut cutter = Cutter::new(alloc)?;

@@ -10,7 +10,7 @@ use std::io::{ErrorKind, Read, Write};
 use std::process::Abort;
 use std::test::Fail;
 
-/// Gives a byte at each read, and fails at the one after so many.
+/// A reader that gives a byte at each of its first `reads` reads, and fails at the next one.
 #[derive(Drop)]
 struct FailingReader<'a> {
     rest: &'a [u8],
@@ -41,7 +41,7 @@ enum Refusal {
     TakesNothing,
 }
 
-/// Takes a byte at each write, and refuses the one after so many.
+/// A writer that takes a byte at each of its first `writes` writes, and refuses the next one.
 #[derive(Drop)]
 struct FailingWriter {
     text: Vec<u8>,
@@ -74,7 +74,8 @@ impl Write for FailingWriter {
     }
 }
 
-/// What goes out for the bytes, and how it ends, where so many reads and writes are made.
+/// Returns what is written for `bytes`, and how the loop ends. After `reads` reads the next read
+/// fails, and after `writes` writes the next write ends as `refusal` says.
 fn serve_failing(
     alloc: Global,
     bytes: &[u8],
@@ -101,7 +102,7 @@ fn serve_failing(
     Ok((writer.into_inner().text, ended))
 }
 
-/// All reads before the one that fails are answered.
+/// Shows that all reads before the one that fails are answered.
 #[test]
 fn each_read_fails(rt: HostRuntime) -> Result<(), Fail> {
     let stream = hex::decode(rt.alloc(), TWICE)?;
@@ -128,7 +129,7 @@ fn each_read_fails(rt: HostRuntime) -> Result<(), Fail> {
     Ok(())
 }
 
-/// All bytes before the write that fails or takes nothing have gone out, and no others.
+/// Shows that all bytes before the write that fails or takes nothing have gone out, and no others.
 #[test]
 fn each_write_fails(rt: HostRuntime) -> Result<(), Fail> {
     let stream = hex::decode(rt.alloc(), TWICE)?;

@@ -33,16 +33,16 @@ const VALUE: &[u8] = &[1, 0, 0, 0, 0, 0, 0, 0, 0, 0, 5];
 /// The ids of the owner's payments.
 const IDS: &[u64] = &[7, 70, 700];
 
-/// How many calls a disk has in a run that asks for each of them: two of the recovery, and two a
-/// payment.
+/// The count of calls that a disk has in a run that makes each of them: two of the recovery, and
+/// two for each payment.
 const CALLS: usize = 8;
 
-/// How often a disk looks whether others have asked, a millisecond apart.
+/// How often a disk looks whether others have submitted their values, a millisecond apart.
 const TURNS: u32 = 20_000;
 
 type Started<'a, R> = Restarted<Shared<'a, R>, MaskInstance, WaitingBook>;
 
-/// A disk that outlives its log. A sync waits until no asks are missing.
+/// A disk that outlives its log. A sync waits until no submissions are missing.
 #[derive(Drop)]
 struct Shared<'a, R> {
     rt: &'a R,
@@ -84,7 +84,7 @@ impl<R: Wait + Clock> Device for Shared<'_, R> {
     }
 }
 
-/// A member alone, with its one account.
+/// Creates the genesis of one member with one account, and the member's keys.
 fn alone(alloc: Global) -> Result<(Genesis, Keys), Fail>
     ensures { IfOk result (λ made. IsKeysOf made.0 made.1) }
 {
@@ -96,8 +96,8 @@ fn alone(alloc: Global) -> Result<(Genesis, Keys), Fail>
     Ok((genesis, keys))
 }
 
-/// The disks of a start: one that has a log, and one for the new log, whose call of this number
-/// fails, where so many bytes of an append are written.
+/// The disks of a start: one has a log, and the other is for the new log. A call of this number
+/// fails on the second, and leaves that many bytes of an append.
 #[derive(Drop)]
 struct Disks {
     old: Mutex<FailingDisk>,
@@ -116,20 +116,20 @@ impl Disks {
         Disks::of(alloc, log, usize::MAX, 0)
     }
 
-    /// What the new log has.
+    /// Returns the bytes of the new log.
     fn new_log<R: Wait>(&self, rt: &R, alloc: Global) -> Result<Vec<u8>, Fail> {
         Ok(self.new.lock(rt).bytes.to_vec(alloc)?)
     }
 }
 
-/// A log of no record.
+/// Creates the bytes of a log without records.
 fn log_of_none(alloc: Global) -> Result<Vec<u8>, Fail> {
     let (genesis, keys) = alone(alloc)?;
     let header = log_header(alloc, &genesis, &keys)?;
     Ok(header.encode(alloc)?)
 }
 
-/// What starts again on disks.
+/// Starts the member again from `disks`, and returns it with its log or the log's fault.
 fn start<'a, R: Wait + Clock>(
     rt: &'a R,
     alloc: Global,
@@ -150,7 +150,7 @@ fn start<'a, R: Wait + Clock>(
     Ok(restart(alloc, &mut old, new, &genesis, &keys))
 }
 
-// The gate over the log of a start.
+// Creates the gate over `log`, the log of a start with `count` entries.
 fn gate_of<'a, R: Wait + Clock>(
     alloc: Global,
     log: Log<Shared<'a, R>>,
@@ -160,7 +160,7 @@ fn gate_of<'a, R: Wait + Clock>(
     kept
 }
 
-/// A node of a member, with three seats.
+/// Creates a node of `member` with three seats.
 fn node_of<S: Beginning>(alloc: Global, member: OwnMember) -> Result<(Node<S>, Vec<Seat>), Fail>
     requires { member ≡ S.beginning }
 {
@@ -170,7 +170,7 @@ fn node_of<S: Beginning>(alloc: Global, member: OwnMember) -> Result<(Node<S>, V
     }
 }
 
-/// Asks to pay under an id, as a desk does.
+/// Submits a payment under an id, as a desk does.
 fn pay<T: Teller>(alloc: Global, teller: &mut T, id: u64) -> Result<(), Fail> {
     let value = Bytes::from_slice(alloc, VALUE)?;
     match teller.ask(alloc, id, value) {
@@ -188,8 +188,8 @@ struct Ended {
     stops: bool,
 }
 
-/// Pays under each id from a member's node: how often that was acknowledged, and whether all stops
-/// after the first failure.
+/// Pays under each id from a member's node. Returns how often a payment was acknowledged, and
+/// whether all stops after the first failure.
 fn pay_each<S: Beginning, R: Wait, D: Device + Drop>(
     rt: &R,
     alloc: Global,
@@ -219,8 +219,8 @@ fn pay_each<S: Beginning, R: Wait, D: Device + Drop>(
     Ok((acknowledged, stops))
 }
 
-/// Pays under each id on a disk whose call of this number fails. A start that fails leaves the old
-/// log.
+/// Pays under each id on a disk with a call of this number that fails. A start that fails leaves
+/// the old log.
 fn pay_until_crash<R: Wait + Clock>(
     rt: &R,
     alloc: Global,
@@ -246,8 +246,8 @@ fn pay_until_crash<R: Wait + Clock>(
     })
 }
 
-/// How many payments a member has that starts again from these bytes, if their ids are those that
-/// were ordered.
+/// Returns how many payments a member that starts again from `bytes` has, if their ids are those
+/// that were ordered.
 fn payments_on<R: Wait + Clock>(
     rt: &R,
     alloc: Global,
@@ -283,7 +283,7 @@ fn failing_disk_loses_no_kept_payment(rt: HostRuntime) -> Result<(), Fail> {
     Ok(())
 }
 
-/// Pays once under an id from a member's node, which asked for so many values before.
+/// Pays once under `id` from a node of `member`, which submitted `next` values before.
 fn pay_next<S: Beginning, R: Wait, D: Device + Drop>(
     rt: &R,
     alloc: Global,
@@ -302,7 +302,7 @@ fn pay_next<S: Beginning, R: Wait, D: Device + Drop>(
     Ok(kept.keep(rt, &node))
 }
 
-/// Starts again from these bytes and pays once under an id, and returns what the disk has then.
+/// Starts again from `bytes` and pays once under `id`. Returns what the disk has then.
 fn live_once<R: Wait + Clock>(
     rt: &R,
     alloc: Global,
@@ -335,7 +335,8 @@ fn each_payment_keeps_its_id_in_a_life_of_its_own(rt: HostRuntime) -> Result<(),
     Ok(())
 }
 
-/// Pays from each of a node's three seats at once, the first of which waits until all have asked.
+/// Pays from each of a node's three seats at once. The first sync waits until all have submitted
+/// their values.
 fn all_pay<S, R, D>(
     rt: &R,
     alloc: Global,
@@ -366,7 +367,7 @@ where
     Ok(answers.iter().all(|answer| *answer))
 }
 
-/// Pays from three seats at once. The first sync waits until all have asked.
+/// Pays from three seats at once. The first sync waits until all have submitted their values.
 fn paid_at_once<R: Wait + Threads + Clock + Sync>(
     rt: &R,
     alloc: Global,
@@ -391,7 +392,7 @@ fn those_that_wait_share_a_sync(rt: HostRuntime) -> Result<(), Fail> {
     Ok(())
 }
 
-/// A keeper that takes no id.
+/// A durability gate that takes no id.
 struct Refusing;
 
 impl Keeper for Refusing {
@@ -416,7 +417,8 @@ impl Keeper for Refusing {
     }
 }
 
-/// Whether a node refuses to pay under an id that isn't taken, and how long its history is then.
+/// Returns whether a node of `member` refuses to pay under an id that isn't taken, and how many
+/// entries its history has then.
 fn tried_in_vain<S: Beginning, R: Wait>(
     rt: &R,
     alloc: Global,
@@ -436,7 +438,7 @@ fn tried_in_vain<S: Beginning, R: Wait>(
     Ok((refused, node.stop().into_member().history().len()))
 }
 
-/// The same of a fresh member.
+/// Returns what `tried_in_vain` returns for a fresh member.
 fn fresh_in_vain<R: Wait>(rt: &R, alloc: Global) -> Result<(bool, usize), Fail> {
     let (genesis, keys) = alone(alloc)?;
     let member: OwnMember = Member::new(alloc, genesis, keys)?;

@@ -25,11 +25,11 @@ pub(crate) const FULL: ErrorKind = ErrorKind::StorageFull;
 /// What is appended, each in one chunk: of 57, 52 and 61 bytes after the header's 75.
 const TEXTS: &[&str] = &["first", "", "the third"];
 
-/// Where each chunk ends in the file, the header before them.
+/// The place at which each record block ends in the file, after the header.
 const ENDS: &[usize] = &[75, 132, 184, 245];
 
-/// A disk whose call of this number fails, counted from 0: of an append so many bytes are written.
-/// It keeps what a crash leaves.
+/// A disk with a call that fails, by its number from 0. Of an append in that call `torn` bytes are
+/// written. The disk keeps what a crash leaves.
 #[derive(Drop)]
 pub(crate) struct FailingDisk {
     pub(crate) bytes: Vec<u8>,
@@ -48,7 +48,7 @@ impl FailingDisk {
         }
     }
 
-    // Whether this call fails.
+    // Returns whether this call fails, and counts the call.
     fn is_failing(&mut self) -> bool {
         let fails = self.calls == self.fails;
         self.calls = self.calls.saturating_add(1);
@@ -137,7 +137,7 @@ fn append_text<D: Device>(alloc: Global, log: &mut Log<D>, text: &str) -> Result
     Ok(log.append(alloc, payload)?)
 }
 
-/// How many texts a list of payloads has, if it is a beginning of all texts.
+/// Returns how many texts `payloads` has, if they are a prefix of all texts.
 fn texts_in(payloads: &Payloads) -> Option<usize> {
     for (place, payload) in payloads.items.iter().enumerate() {
         if place >= TEXTS.len() || payload.as_slice() != TEXTS[place].as_bytes() {
@@ -147,12 +147,13 @@ fn texts_in(payloads: &Payloads) -> Option<usize> {
     Some(payloads.items.len())
 }
 
-/// A disk of these bytes that doesn't fail.
+/// Creates a disk of `bytes` that doesn't fail.
 fn sound_disk(alloc: Global, bytes: &[u8]) -> Result<FailingDisk, Fail> {
     Ok(FailingDisk::new(bytes.to_vec(alloc)?, usize::MAX, 0))
 }
 
-/// What is read again of a file on a disk that doesn't fail.
+/// Returns how many texts are read from a log of `bytes` on a disk that doesn't fail, if they are a
+/// prefix of all texts.
 fn texts_on(alloc: Global, bytes: &[u8]) -> Result<Option<usize>, Fail> {
     let mut disk = sound_disk(alloc, bytes)?;
     let mut payloads = Payloads::new(alloc);
@@ -160,9 +161,9 @@ fn texts_on(alloc: Global, bytes: &[u8]) -> Result<Option<usize>, Fail> {
     Ok(texts_in(&payloads))
 }
 
-/// The log after a crash at the call of this number, where so many bytes of an append were written,
-/// with how many texts were acknowledged, and whether each call failed as the first that did. If
-/// none was made, there is no log.
+/// Returns the log after a crash at the call `fails`, with `torn` bytes of an append written. It
+/// also returns how many texts were acknowledged, and whether each call after a failed one failed
+/// too. Returns `None` if no log could be created.
 fn log_after_crash(
     alloc: Global,
     fails: usize,
@@ -211,7 +212,7 @@ fn failing_disk_loses_no_acknowledged_text(rt: HostRuntime) -> Result<(), Fail> 
     Ok(())
 }
 
-/// A log of all texts, by a disk that doesn't fail.
+/// Creates a log of all texts on a disk that doesn't fail, and returns its bytes.
 fn texts_bytes(alloc: Global) -> Result<Vec<u8>, Fail> {
     match log_after_crash(alloc, usize::MAX, 0)? {
         Some((bytes, ..)) => Ok(bytes),
@@ -219,15 +220,15 @@ fn texts_bytes(alloc: Global) -> Result<Vec<u8>, Fail> {
     }
 }
 
-/// The bytes from a place up to another, as far as there are any.
+/// Returns the bytes from the place `from` to the place `to`, as far as `bytes` has any.
 fn part(bytes: &[u8], from: usize, to: usize) -> &[u8] {
     let to = to.min(bytes.len());
     let from = from.min(to);
     &bytes[from..to]
 }
 
-/// How many texts are read again of this log on a lossy disk, once a crash left these bytes of a
-/// further write.
+/// Returns how many texts are read again from a log of `bytes` on a lossy disk, after a crash left
+/// `torn` of a further write.
 fn texts_after_a_crash(alloc: Global, bytes: &[u8], torn: &[u8]) -> Result<Option<usize>, Fail> {
     let mut left = bytes.to_vec(alloc)?;
     left.extend_from_slice(torn)?;

@@ -17,18 +17,18 @@ use std::test::Fail;
 
 type Tried = Member<MaskInstance, PlainBook>;
 
-/// What is done to a member, or looked at, with what comes of it. Bytes are in hexadecimal.
+/// A step that is done to a member, or looked at, with what comes of it. Bytes are in hexadecimal.
 enum Step {
-    /// It is asked for this value, which gets this number.
+    /// This value is submitted, and gets this number.
     Ask(&'static str, u32),
-    /// These bytes are brought, and the WANT is answered; none, where that is empty.
+    /// These bytes are delivered, and the answer has this WANT, or none if it is empty.
     Bring(&'static str, Outcome, &'static str),
-    /// They are brought and taken, and this follows.
+    /// These bytes are delivered and accepted, and this follows.
     Take(&'static str, Took),
     /// How far the first value of account 0 has come, and how many entries of that account are
     /// settled.
     Show(PaymentState, u32),
-    /// Which lie a member told last.
+    /// The last protocol violation of a member.
     Lied(u16, Option<Lie>),
 }
 
@@ -88,7 +88,7 @@ pub(crate) const SENT: &str =
 const NEXT: &str =
     "003601040001000000000000000000010000000000000000abc08308999c120482dbcf8386bff193850732924e3bacd9ac0a94968a840db3";
 
-/// What is brought to one member, payments of which some wait, and values in another order.
+/// What is delivered to one member: payments, some of which wait, and values in another order.
 const ROWS: &[Row] = &[
     Row {
         name: "brought bytes",
@@ -225,7 +225,7 @@ fn fresh(alloc: Global, own: u16) -> Result<Tried, Fail> {
     Ok(Member::new(alloc, genesis, keys)?)
 }
 
-/// The number that a value gets, of which one more is asked for where memory is refused.
+/// Submits `value`, and then `again` if memory runs out. Returns the number of the value.
 fn try_ask(alloc: Global, member: &mut Tried, value: Bytes, again: Bytes) -> Result<u32, AskFault> {
     match member.ask(alloc, 0, value) {
         Err(AskFault::Memory) => member.ask(alloc, 0, again),
@@ -233,14 +233,14 @@ fn try_ask(alloc: Global, member: &mut Tried, value: Bytes, again: Bytes) -> Res
     }
 }
 
-/// The same of a value in hexadecimal.
+/// Submits `value`, which is in hexadecimal, and returns its number.
 fn asked_for(alloc: Global, member: &mut Tried, value: &str) -> Result<u32, Fail> {
     let again = Bytes::new(hex::decode(alloc, value)?);
     let value = Bytes::new(hex::decode(alloc, value)?);
     Ok(try_ask(alloc, member, value, again)?)
 }
 
-/// What comes of bytes, which are brought once more where memory is refused.
+/// Delivers `bytes` to `member`, a second time if memory runs out, and returns the outcome.
 fn try_take(alloc: Global, member: &mut Tried, bytes: &[u8]) -> Result<Brought, AllocError> {
     match member.bring(alloc, 0, &HmacSha256, bytes) {
         Ok(brought) => Ok(brought),
@@ -248,13 +248,13 @@ fn try_take(alloc: Global, member: &mut Tried, bytes: &[u8]) -> Result<Brought, 
     }
 }
 
-/// The same of bytes in hexadecimal.
+/// Delivers `bytes`, which are in hexadecimal, to `member`, and returns the outcome.
 fn try_bring(alloc: Global, member: &mut Tried, bytes: &str) -> Result<Brought, Fail> {
     let bytes = hex::decode(alloc, bytes)?;
     Ok(try_take(alloc, member, bytes.as_slice())?)
 }
 
-/// Whether an answer has this WANT, or none where that is empty.
+/// Returns whether an answer has the WANT `want`, or has none if `want` is empty.
 fn is_wanted(alloc: Global, brought: &Brought, want: &str) -> Result<bool, Fail> {
     let want = hex::decode(alloc, want)?;
     Ok(match &brought.want {
@@ -264,7 +264,7 @@ fn is_wanted(alloc: Global, brought: &Brought, want: &str) -> Result<bool, Fail>
 }
 
 impl Step {
-    /// Takes the step, and says whether that came of it.
+    /// Takes the step, and returns whether what it says came of it.
     fn is_met(&self, alloc: Global, member: &mut Tried) -> Result<bool, Fail> {
         match self {
             Step::Ask(value, seq) => Ok(asked_for(alloc, member, value)? == *seq),
@@ -287,7 +287,7 @@ impl Step {
     }
 }
 
-/// The text of a member's export, which is made once more where memory is refused.
+/// Returns the text of the export of `member`. It is made a second time if memory runs out.
 fn text_of(alloc: Global, member: &Tried) -> Result<String, ReplayFault> {
     match try_text(alloc, member) {
         Ok(text) => Ok(text),
@@ -300,7 +300,8 @@ fn try_text(alloc: Global, member: &Tried) -> Result<String, AllocError> {
     Ok(text)
 }
 
-/// The member that a history of this one is replayed to, once more where memory is refused.
+/// Returns the member that `history` is replayed to, with the genesis and the keys of `member`. It
+/// is replayed a second time if memory runs out.
 fn try_replay(
     alloc: Global,
     member: &Tried,
@@ -312,7 +313,7 @@ fn try_replay(
     }
 }
 
-/// That member's text.
+/// Returns the text of the export of the member that `history` is replayed to.
 fn replayed_text(
     alloc: Global,
     member: &Tried,
@@ -324,7 +325,7 @@ fn replayed_text(
     }
 }
 
-/// A reply that says otherwise what followed.
+/// Returns `reply` with another answer about what followed, if it has such an answer.
 fn another(reply: Reply) -> Reply {
     match reply {
         Reply::Took(took) => Reply::Took(Took {
@@ -357,7 +358,7 @@ fn copy_changed(
     Ok(())
 }
 
-/// Why a member's history with that reply isn't replayed, if it isn't.
+/// Returns why the history of `member` isn't replayed after one reply was changed, if it isn't.
 fn fault_of_changed(alloc: Global, member: &Tried) -> Result<Option<ReplayFault>, AllocError> {
     let mut changed = Vec::new(alloc);
     copy_changed(alloc, member.history(), &mut changed)?;
@@ -368,8 +369,9 @@ fn is_spelled(text: String, wanted: &str) -> bool {
     text.as_str() == wanted
 }
 
-/// Whether the row's export is the member's, its history is replayed to one with the same, and one
-/// with another reply isn't.
+/// Returns whether the export of `member` is that of `row`, and whether its history is replayed to
+/// a member with that export. The third answer says whether a history with another reply is
+/// refused.
 fn exports(alloc: Global, row: &Row, member: &Tried) -> Result<[bool; 3], ReplayFault> {
     Ok([
         is_spelled(text_of(alloc, member)?, row.export),

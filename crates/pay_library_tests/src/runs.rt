@@ -118,7 +118,7 @@ fn show_world(world: &World<PlainInstance, PlainBook>) -> Shown {
     (balance, all_taken(world))
 }
 
-// What comes of these.
+// Returns what the members show after `events`.
 fn run_among(
     alloc: Global,
     genesis: &Genesis,
@@ -135,7 +135,8 @@ fn run_among(
     }
 }
 
-// The same of a row's events. Where memory is refused to the run, it is made once more.
+// Returns what the members show after the events of `row`. The run is made once more if memory runs
+// out.
 fn run_at_last(
     alloc: Global,
     genesis: &Genesis,
@@ -153,7 +154,7 @@ fn run_at_last(
     })
 }
 
-/// The same among the members of its group.
+/// Runs `row` among the members of its group, and returns what they show.
 fn run(alloc: Global, row: &Row) -> Result<Result<Shown, WorldFault>, Fail> {
     let (faults, opening, liars) = row.group;
     let genesis = Genesis::new(alloc, opening.len() as u64, faults, opening)?;

@@ -42,7 +42,7 @@ pub(crate) fn fresh(alloc: Global) -> Result<Member<PlainInstance, PlainBook>, F
     Ok(Member::new(alloc, genesis, keys)?)
 }
 
-/// What goes out for the bytes, and how it ends.
+/// Returns what is written for `bytes`, and how the loop ends.
 fn serve_stream(alloc: Global, bytes: &[u8]) -> Result<(Vec<u8>, Result<(), EngineFault>), Fail> {
     let mut member = fresh(alloc)?;
     let mut reader = Reader::new(bytes);
@@ -59,7 +59,8 @@ fn serve_stream(alloc: Global, bytes: &[u8]) -> Result<(Vec<u8>, Result<(), Engi
     Ok((writer.into_inner(), ended))
 }
 
-/// The same, once more where memory is refused: to a call, or to the list that is written to.
+/// Returns what is written for `bytes`, and how the loop ends. If memory runs out for a call or for
+/// the list that is written to, the bytes are served once more.
 fn served_at_last(alloc: Global, bytes: &[u8]) -> Result<(Vec<u8>, Result<(), EngineFault>), Fail> {
     match serve_stream(alloc, bytes)? {
         (_, Err(EngineFault::Memory | EngineFault::Write)) => serve_stream(alloc, bytes),
@@ -67,7 +68,8 @@ fn served_at_last(alloc: Global, bytes: &[u8]) -> Result<(Vec<u8>, Result<(), En
     }
 }
 
-/// Whether so many WANTs go out for the first bytes of a stream, the first one before any frame.
+/// Returns whether the first `answered` of `wants` are written for `part`, the first bytes of a
+/// stream. The first WANT is written before any frame.
 fn is_answered(alloc: Global, part: &[u8], wants: &[u8], answered: usize) -> Result<bool, Fail> {
     let (text, ended) = served_at_last(alloc, part)?;
     let end = if part.len() % FRAME == 0 {
@@ -79,7 +81,7 @@ fn is_answered(alloc: Global, part: &[u8], wants: &[u8], answered: usize) -> Res
     Ok(wanted == Some(text.as_slice()) && ended == end)
 }
 
-/// Each frame of a stream that is whole is answered, if they open.
+/// Shows that each whole frame of `stream` is answered if the frames `opens`.
 fn cut_anywhere(
     rt: &(impl Abort + AllocGlobal),
     stream: &[u8],

@@ -10,7 +10,7 @@ struct Case {
     tag: &'static str,
 }
 
-/// The seven cases of RFC 4231, the fifth of which prints the first 16 bytes of its tag.
+/// The seven cases of RFC 4231. The fifth case prints the first 16 bytes of its tag.
 const PUBLISHED: &[Case] = &[
     Case {
         key: &[0x0b; 20],
@@ -71,7 +71,7 @@ const COMPUTED: &[Case] = &[
     },
 ];
 
-// Whether the tag that is computed begins as a case says.
+// Returns whether the computed tag begins as `case` says.
 fn is_tagged(alloc: Global, case: &Case) -> Result<bool, Fail> {
     let tag = hex::encode(alloc, mac(case.key, case.text).as_slice())?;
     Ok(tag.as_str().starts_with(case.tag))

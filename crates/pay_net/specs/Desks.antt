@@ -24,7 +24,7 @@ desk_from n kept seat = record {
   kept = kept;
 }
 
--- this desk, with the last of its fresh seats
+-- a node's desk before any line, with the last of the node's fresh seats
 abbrev pub first_desk : NodeFields → List Kept → Desk TellerFields
 first_desk n kept = desk_from n kept (fresh_seat (n.seats - 1))
 

@@ -92,7 +92,7 @@ IsAmiss s seats stamp =
     IsLeastWrong s.member (base_of s.node) s.node.seats seats stamp
     ⊎ IsLeastUncounted s.member (base_of s.node) s.node.seats seats stamp
 
--- such a stamp, for the node's member with some legal history
+-- a stamp for which the shutdown check fails, for the node's member with some legal history
 pub record IsSomehowAmiss (n : NodeFields) (seats : List SeatFields) (stamp : ℕ) : Type 0 where
   pub member : MemberFields
   pub own : IsOwn n member
@@ -149,8 +149,9 @@ ended_by (Err (close.Mismatch stamp, stopped)) = Err stamp
 ended_by (Err (close.Memory None, stopped)) = Ok (stopped.member, Unjudged)
 ended_by (Err (close.Memory (Some stamp), stopped)) = Err stamp
 
--- What became of a node that stopped, with these seats. It is its member, which agrees with the
--- seats or has as many entries as they tell, or the stamp that the shutdown check names.
+-- What became of a node that stopped, with these seats. The node's member is returned, and it
+-- agrees with the seats or has as many entries as they tell. Otherwise the shutdown check names a
+-- stamp.
 abbrev pub HasClosed :
     StoppedFields → List SeatFields → Result (MemberFields × Receipts) ℕ → Type 0
 HasClosed s seats (Ok (m, Consistent)) =

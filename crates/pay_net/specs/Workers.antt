@@ -6,13 +6,13 @@ use Rattle.pay_peers.specs.Growing.{EachGrows}
 use Rattle.pay_net.specs.declared.workers.Worker.{Worker}
 use Rattle.pay_net.specs.declared.workers.Worker.TheVariants.{Notice, Welcome, Accept, Show, Read}
 
--- the seats of the readers grew, and the others have none
+-- the seats of the readers grew, and the other workers have no seats
 abbrev pub HasWorked : Worker → Worker → Type 0
 HasWorked (Read old) (Read new) = EachGrows old.items new.items
 HasWorked (Read old) _ = ⊥
 HasWorked _ _ = ⊤
 
--- at each place
+-- each worker has worked, at its place
 pub record AllWorked (old new : List Worker) : Type 0 where
   pub many : length new ≡ length old
   pub each :

@@ -51,8 +51,9 @@ impl Door for Listening {
     }
 }
 
-/// The greatest number of inbound connections. Each peer of the largest group has its current one
-/// and another. One may have an unknown sender, and one more makes room for a newcomer.
+/// The greatest number of inbound connections. Each peer of the largest group has its current
+/// connection and another. One more connection may have an unknown sender, and one more makes room
+/// for a newcomer.
 pub const MOST_CONNECTIONS: u16 = 256;
 
 /// The descriptors of an inbound connection, of a client of the desk and of a connected member, and
@@ -64,8 +65,9 @@ const OF_DIALED: u64 = 3;
 const OF_NODE: u64 = 32;
 
 /// Returns how many inbound connections a node of `members` members may have at once, if the system
-/// allows it `limit` descriptors. All that it has open are no more than these. Returns `None` if
-/// they don't suffice for the current connection and another of each peer.
+/// allows it `limit` descriptors. All descriptors that the node has open are no more than these.
+/// Returns `None` if the descriptors don't suffice for the current connection and another of each
+/// peer.
 // promise: limits
 pub fn places_within(limit: u64, members: u16) -> Option<u16>
     ensures value { result ≡ places_within limit members }

@@ -28,8 +28,8 @@ pub enum Receipts {
     Unjudged,
 }
 
-/// Returns what is left of a node with this result of its threads: its history is synced once more,
-/// and then compared with its seats.
+/// Returns what is left of `node`, if `ran` is the result of its threads. The history is synced by
+/// `keeper` once more, and then compared with the node's seats.
 // promise: node's end (amiss, memory, durable, whole)
 pub(crate) fn finish<R, S, K>(
     rt: &R,

@@ -33,8 +33,8 @@ impl Connections {
         })
     }
 
-    /// Keeps a clone of a connection and returns its place. Returns `None` if all places are taken,
-    /// if all connections are or will be shut down, or if it can't be cloned.
+    /// Keeps a clone of `stream` and returns its place. Returns `None` if all places are taken, if
+    /// all connections are or will be shut down, or if the stream can't be cloned.
     ///
     /// `stop` is set before all are shut down, so what is kept after it was tested here is shut
     /// down with them.
@@ -71,7 +71,7 @@ impl Connections {
     }
 
     /// Shuts down the connection that wasn't heard for longest, if it wasn't heard after the time
-    /// `since`. It keeps its place until its thread releases it.
+    /// `since`. The connection keeps its place until its thread releases the place.
     pub(crate) fn shut_idlest<R: Wait>(&self, rt: &R, since: u64) {
         let places = self.places.lock(rt);
         let mut least = since;
@@ -97,14 +97,14 @@ impl Connections {
         shut(places.as_mut_slice(), place);
     }
 
-    /// Shuts down all open connections. They keep their places.
+    /// Shuts down all open connections. The connections keep their places.
     pub(crate) fn shut_all<R: Wait>(&self, rt: &R) {
         let places = self.places.lock(rt);
         shut_all(places.as_slice());
     }
 }
 
-/// Shuts down the connection at `place`, if one is kept there, and keeps it no more.
+/// Shuts down the connection at `place` of `kept`, if there is one, and keeps it no more.
 pub(crate) fn shut(kept: &mut [Option<TcpStream>], place: usize) {
     if let Some(kept) = kept.get_mut(place) {
         if let Some(stream) = kept.take() {
@@ -113,7 +113,7 @@ pub(crate) fn shut(kept: &mut [Option<TcpStream>], place: usize) {
     }
 }
 
-/// Shuts down all connections that are kept, and keeps them.
+/// Shuts down all connections in `kept`, and keeps them.
 pub(crate) fn shut_all(kept: &[Option<TcpStream>]) {
     for stream in kept.iter().flatten() {
         let _ = stream.shutdown(Shutdown::Both);

@@ -123,8 +123,8 @@ impl Contact {
         self.tell(News::GivenUp)
     }
 
-    /// Notes that the peer sent a protocol violation. It is reported once, and after it only a
-    /// failed authentication is.
+    /// Notes that the peer sent a protocol violation, `lie`. The violation is reported once, and
+    /// after it only a failed authentication is.
     // promise: news of peers; lies
     pub(crate) fn accuse(&mut self, lie: Lie) -> Option<News>
         ensures news { result ≡ news_of_lie self.old.last lie }
@@ -139,8 +139,8 @@ impl Contact {
         }
     }
 
-    /// Notes that a frame in the peer's name failed authentication. It is reported once, and
-    /// changes nothing else.
+    /// Notes that a frame in the peer's name failed authentication. The failure is reported once,
+    /// and changes nothing else.
     // promise: news of peers
     pub(crate) fn mistrust(&mut self) -> Option<News>
         ensures news { result ≡ (if self.old.mistrusted then None else Some Unopened) }
@@ -182,7 +182,8 @@ struct Heard {
 }
 
 impl<'a, R: Wait + Clock, O: Observer<News>> Contacts<'a, R, O> {
-    /// Creates the states of `members` peers, none of them heard.
+    /// Creates the states of `members` peers, none of them heard. Events are reported to `observer`
+    /// until `stop` is set.
     pub(crate) fn new(
         rt: &'a R,
         alloc: Global,
@@ -207,7 +208,7 @@ impl<'a, R: Wait + Clock, O: Observer<News>> Contacts<'a, R, O> {
         })
     }
 
-    /// Returns what is known about each peer now.
+    /// Returns what is known now about each peer of the member `own` among `members`.
     // promise: figures
     pub(crate) fn figures(
         &self,

@@ -26,7 +26,8 @@ pub(crate) struct Dialer<'a, R> {
     pub stop: &'a AtomicBool,
 }
 
-/// An outbound connection, and its place among the open ones. It is shut down when it is dropped.
+/// An outbound connection, and its place among the open ones. The connection is shut down when it
+/// is dropped.
 pub(crate) struct DialedStream<'a, R: Wait> {
     rt: &'a R,
     dialed: &'a Connections,

@@ -396,7 +396,7 @@ impl InboundConnections {
         })
     }
 
-    /// Gives a connection a place, unless all are or will be shut down.
+    /// Gives the connection `stream` a place, unless all connections are or will be shut down.
     ///
     /// `stop` is set before all are shut down, so what is kept after it was tested here is shut
     /// down with them.
@@ -436,8 +436,9 @@ impl InboundConnections {
         Entry::At(free)
     }
 
-    /// Notes that a WANT of `peer` for `number` came on a connection. It is the peer's from then
-    /// on, and its current one if the number is above all before. Returns whether it is still open.
+    /// Notes that a WANT of `peer` for `number` came on the connection at `place`. The connection
+    /// is the peer's from then on, and its current one if the number is above all before. Returns
+    /// whether the connection is still open.
     pub(crate) fn ask<R: Wait>(&self, rt: &R, place: usize, peer: u16, number: u64) -> bool {
         let mut room = self.room.lock(rt);
         self.note_asked(place);
@@ -493,7 +494,7 @@ impl InboundConnections {
         shut(room.streams.as_mut_slice(), place);
     }
 
-    /// Shuts down all connections that are answered. They keep their places.
+    /// Shuts down all connections that are answered. The connections keep their places.
     pub(crate) fn shut_all<R: Wait>(&self, rt: &R) {
         let room = self.room.lock(rt);
         shut_all(room.streams.as_slice());

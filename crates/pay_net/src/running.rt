@@ -184,15 +184,15 @@ pub(crate) struct Running<'a, H, S: Beginning, O, K> {
 
 /// Runs the member of `start` as a node among its peers until the input of its desk ends. Returns
 /// the member, and whether its history was compared with all receipts of the seats. Memory may run
-/// out for that, and the member must not be lost then. The desk continues with what is kept of the
-/// member's payments. If `config` has a socket, its clients give lines to the desk too, between
-/// those of the input.
+/// out for the comparison, and the member must not be lost then. The desk continues with what is
+/// kept of the member's payments. If `config` has a socket, its clients give lines to the desk too,
+/// between those of the input.
 ///
-/// It listens on its own port, and connects to the ports of all others. The fault `Port` gives the
-/// port and the reason if it can't listen. A fault of the desk ends the node too, and is returned.
-/// Nothing that follows from the history leaves the node before its durability gate has kept the
-/// history. If the gate fails, writes fail, and so does the end. No clause names a gate's refusal,
-/// so none says of the fault `Write` that a write failed.
+/// The node listens on its own port, and connects to the ports of all others. The fault `Port`
+/// gives the port and the reason if the node can't listen. A fault of the desk ends the node too,
+/// and is returned. Nothing that follows from the history leaves the node before its durability
+/// gate has kept the history. If the gate fails, writes fail, and so does the end. No clause names
+/// a gate's refusal, so none says of the fault `Write` that a write failed.
 // promise: one desk (ended); node's end (ended, durable, whole, reads); ids (ended)
 // promise: nothing is lost (durable, whole); end of a restart (ended)
 pub fn run_node<H, O, K, In, Out>(

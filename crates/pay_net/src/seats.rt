@@ -22,7 +22,7 @@ pub(crate) struct Seats {
     pub left: Vec<Seat>,
 }
 
-/// Gives the desk the last seat, and each worker one of the others.
+/// Gives the desk the last of `seats`, and each worker one of the others.
 pub(crate) fn seat_threads(
     alloc: Global,
     own: u16,
@@ -91,7 +91,7 @@ fn last_of(left: &mut Vec<Seat>) -> Seat
     left.remove(left.len() - 1)
 }
 
-/// Returns all seats in one list, the readers' first and the desk's at its end.
+/// Returns all `seats` in one list, the readers' first and the desk's at its end.
 ///
 /// No clause says that a seat which was under a lock is still the one that was lent. The shutdown
 /// check finds that out.

@@ -147,7 +147,8 @@ impl NodeStart {
     }
 }
 
-/// Creates the node of a member with `seats` seats, with or without a rollback check.
+/// Creates the node of `member` with `seats` seats. The node makes a rollback check if `compares`
+/// is set.
 pub(crate) fn node_of<S: Beginning>(
     alloc: Global,
     member: OwnMember,

@@ -121,7 +121,7 @@ impl Gatherer for Showing {
     }
 }
 
-/// Returns the metrics of a node's member, by one look at it.
+/// Returns the metrics of the member of `node`, by one look at it.
 pub(crate) fn member_figures<R, S>(
     rt: &R,
     alloc: Global,
@@ -267,8 +267,8 @@ where
 /// The milliseconds between two looks at whether a node continues as it should.
 const LOOK_MILLIS: u64 = 1_000 / LOOKS_A_SECOND;
 
-/// A watch on whether a node's member has lost state or is out of memory, which is reported. It
-/// also looks at the inbound connections.
+/// A watch on whether a node's member has lost state or is out of memory, which is reported. The
+/// watch also looks at the inbound connections.
 #[derive(Drop)]
 pub(crate) struct Noticing<'a, R, S: Beginning, O> {
     pub rt: &'a R,

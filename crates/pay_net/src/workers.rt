@@ -35,7 +35,7 @@ pub(crate) enum Worker {
     Read(Vec<(u16, PeerReader)>),
 }
 
-/// Returns the workers of a node that has these `readers`, with or without a socket.
+/// Returns the workers of a node that has these `readers`, and a socket if `has_socket` is set.
 ///
 /// The reader is the last: if no thread can be made, it works and the others wait.
 pub(crate) fn workers_of(
@@ -60,7 +60,7 @@ pub(crate) fn workers_of(
     Ok(workers)
 }
 
-/// Returns the readers, after all workers have ended.
+/// Returns the readers that the last of `workers` has, after all workers have ended.
 pub(crate) fn readers_of(workers: Vec<Worker>) -> Vec<(u16, PeerReader)>
     requires { EndsInReader workers.items }
     ensures { (others : List Worker) × (workers.items ≡ others ++ Read result ∷ []) }
@@ -79,7 +79,7 @@ where
     O: Observer<News> + Watcher + Sync,
     K: Keeper + Sync,
 {
-    /// Runs all workers, each in a thread of its own, until the node stops. `desk` answers the
+    /// Runs all `workers`, each in a thread of its own, until the node stops. `desk` answers the
     /// clients on the socket.
     pub(crate) fn work_all(&self, desk: &Mutex<NodeDesk<'_, H, S, K>>, workers: &mut Vec<Worker>)
         ensures { AllWorked workers.old.items workers.new.items }

@@ -43,12 +43,12 @@ with_claim c peer claim now =
     if is_of_now c.sent now claim then c
     else record c { claims = slice_set c.claims peer (Some claim) }
 
--- the peer of such a claim had accepted more than the member remembers
+-- the peer of this claim had accepted more than the member remembers
 abbrev pub is_beyond : ℕ → Option ℕ → Bool
 is_beyond sent None = false
 is_beyond sent (Some claim) = nat_lt sent claim
 
--- the peer of such a claim had accepted no more than the member remembers
+-- the peer of this claim had accepted no more than the member remembers
 abbrev pub is_within : ℕ → Option ℕ → Bool
 is_within sent None = false
 is_within sent (Some claim) = nat_le claim sent
@@ -56,7 +56,7 @@ is_within sent (Some claim) = nat_le claim sent
 abbrev pub count_beyond : ComparingFields → ℕ
 count_beyond c = count_by (is_beyond c.sent) c.claims
 
--- the count includes the member itself
+-- the count of members that know no more, including the member itself
 abbrev pub count_within : ComparingFields → ℕ
 count_within c = count_by (is_within c.sent) c.claims + 1
 
@@ -118,7 +118,7 @@ IsWithheldOfOwn n before after reading =
     IsShown n before after (Forgetting true)
     ⊎ (IsShown n before after reading × HasStanding n Forgotten)
 
--- one of the two, of a question with this answer
+-- an answer that is told or withheld, to a question with this answer
 abbrev pub IsAnsweredOfOwn :
     {A : Type 0} → NodeFields → SeatFields → SeatFields → (A → Reading) → OwnAnswer A → Type 0
 IsAnsweredOfOwn n before after reads (Told answer) = IsToldOfOwn n before after (reads answer)

@@ -91,8 +91,8 @@ pub(crate) fn least_wrong(
 }
 
 /// Returns the least stamp, if there is one, that isn't counted from `base` on. A stamp is counted
-/// if it belongs to one seat, with as many receipts of entries as the history has. It allocates
-/// nothing.
+/// if it belongs to one seat, with as many receipts of entries as the history has. The call
+/// allocates nothing.
 // promise: closing
 pub(crate) fn least_uncounted(
     member: &OwnMember,
@@ -193,9 +193,9 @@ fn lesser_of(count: u16, least: Option<u16>, stamp: u16) -> Option<u16>
     }
 }
 
-/// Returns `true` only if a member's history is consistent with each receipt of all `seats`. If it
-/// returns `false`, nothing is known: a receipt may be wrong, stand out of its seat's order, or be
-/// from before `base`.
+/// Returns `true` only if the history of `member` is consistent with each receipt of all `seats`.
+/// If the answer is `false`, nothing is known: a receipt may be wrong, stand out of its seat's
+/// order, or be from before `base`.
 pub(crate) fn bears_out_each(
     alloc: Global,
     member: &OwnMember,

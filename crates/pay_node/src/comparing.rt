@@ -54,7 +54,8 @@ impl Model for Comparing {
 }
 
 impl Comparing {
-    /// Creates a check without claims. The member began with `sent` bodies that it had sent.
+    /// Creates a check for a group of `members` members, `faults` of them faulty at most, without
+    /// claims. The member began with `sent` bodies that it had sent.
     pub fn new(alloc: Global, members: u16, faults: u16, sent: u64) -> Result<Comparing, AllocError>
         ensures { IfOk result (λ c. c ≡ record {
           members = members;
@@ -152,7 +153,8 @@ fn is_within(sent: u64, claim: Option<u64>) -> bool
     }
 }
 
-/// What a node's peers have claimed about the member that it began with. It has a lock of its own.
+/// What a node's peers have claimed about the member that the node began with. The claims have a
+/// lock of their own.
 #[derive(Drop)]
 pub(crate) struct Compared<S: Beginning> {
     comparing: Comparing,
@@ -185,7 +187,7 @@ impl<S: Beginning> Compared<S> {
         }
     }
 
-    /// Notes a claim of `peer`, when `now` bodies are sent: see [`Comparing::note`].
+    /// Notes the `claim` of `peer`, when `now` bodies are sent: see [`Comparing::note`].
     pub(crate) fn note(&mut self, peer: u16, claim: u64, now: u64) {
         self.comparing.note(peer, claim, now);
         if self.comparing.standing() == Standing::Free {

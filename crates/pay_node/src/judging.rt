@@ -52,8 +52,9 @@ fn is_same_frame(a: &Checked, b: &Checked) -> bool
         && a.key() == b.key()
 }
 
-/// Returns whether a member's history is consistent with all receipts of `seat`, from `base` on. It
-/// is replayed if it isn't known yet that it is consistent with each receipt.
+/// Returns whether the history of `member` is consistent with all receipts of `seat`, from `base`
+/// on. The history is replayed, unless `is_each_known` says that it is consistent with each receipt
+/// and the receipts are in order.
 pub(crate) fn is_right(
     alloc: Global,
     member: &OwnMember,
@@ -78,8 +79,8 @@ pub(crate) fn is_right(
     are_consistent(alloc, &mut replay, stamp, receipts)
 }
 
-/// Returns whether a history has as many entries with the stamp of `seat`, from `base` on, as the
-/// seat's receipts tell.
+/// Returns whether the history of `member` has as many entries with the stamp of `seat`, from
+/// `base` on, as the seat's receipts tell.
 pub(crate) fn has_its_entries(member: &OwnMember, base: usize, seat: &Seat) -> bool
     requires { base ≤ length member.now.history }
     ensures { IsTrue result ↔ HasItsEntries member.now base seat.now }
@@ -96,7 +97,7 @@ pub(crate) fn entries_since(history: &[HistoryEntry], base: usize) -> &[HistoryE
     &history[base..]
 }
 
-/// Returns how many entries have `stamp`.
+/// Returns how many entries of `history` have `stamp`.
 pub(crate) fn entries_under(history: &[HistoryEntry], stamp: u16) -> usize
     ensures { result ≡ count_by (λ e. e.stamp == stamp) history.now }
 {

@@ -103,8 +103,8 @@ impl<S: Beginning> LockedMember<S> {
         self.base
     }
 
-    /// Hands a frame to the member from `seat`, which keeps the receipt of the answer with `copy`,
-    /// a copy of the frame.
+    /// Hands the frame `checked` to the member from `seat`, which keeps the receipt of the answer
+    /// with `copy`, a copy of the frame.
     // promise: receipts
     pub(crate) fn take(
         &mut self,

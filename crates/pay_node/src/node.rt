@@ -161,8 +161,8 @@ impl<S: Beginning> Model for Node<S> {
 }
 
 impl<S: Beginning> Node<S> {
-    /// Creates a node of `member`, which continues from the member's history, and the node's seats.
-    /// If memory runs out, the member is returned.
+    /// Creates a node of `member`, which continues from the member's history, and the node's
+    /// `seats` seats. If memory runs out, the member is returned.
     // promise: locked member
     pub fn new(
         alloc: Global,
@@ -184,8 +184,9 @@ impl<S: Beginning> Node<S> {
         }
     }
 
-    /// Creates a node of `member` that accepts no value before enough peers have claimed that they
-    /// know no more about it: see [`note_claim`](Node::note_claim).
+    /// Creates a node of `member`, and the node's `seats` seats. The node accepts no value before
+    /// enough peers have claimed that they know no more about the member: see
+    /// [`note_claim`](Node::note_claim). If memory runs out, the member is returned.
     pub fn comparing(
         alloc: Global,
         member: OwnMember,
@@ -211,7 +212,8 @@ impl<S: Beginning> Node<S> {
         }
     }
 
-    /// Creates a node with this member under its lock and a copy of its keys.
+    /// Creates a node with the member `locked` under its lock, and with `keys`, a copy of the
+    /// member's keys.
     pub(crate) fn of_parts(
         locked: LockedMember<S>,
         keys: Keys,
@@ -350,8 +352,8 @@ impl<S: Beginning> Node<S> {
         self.member.lock(rt).query(alloc, seat, account)
     }
 
-    /// Returns the member's answer to `question`. If the seat's latest receipts say just that, no
-    /// receipt is left.
+    /// Returns the member's answer to `question`. If the latest receipts of `seat` say just that,
+    /// no receipt is left.
     // promise: node's answers
     pub fn read<R: Wait, Q: Question>(
         &self,
@@ -423,11 +425,11 @@ impl<S: Beginning> Node<S> {
     }
 
     /// Returns the body that the member sent at the place `number` of all, as soon as it is there.
-    /// Returns `None` if `stop` is set before. However often the body is fetched from a seat, one
+    /// Returns `None` if `stop` is set before. However often the body is fetched from `seat`, one
     /// receipt of it is kept. The wait and the fetch are under one hold of the node's lock, and the
     /// seat is locked after the wait.
     ///
-    /// No clause says how long it waits, for none names the flag. It is tested.
+    /// No clause says how long the call waits, for none names the flag. It is tested.
     // promise: fetched bodies; answered WANTs
     pub fn fetch_when_sent<R: Wait>(
         &self,
@@ -538,14 +540,14 @@ impl<S: Beginning> Node<S> {
         }
     }
 
-    /// Returns how many entries the member's history has. It leaves no receipt.
+    /// Returns how many entries the member's history has. The call leaves no receipt.
     pub fn history_len<R: Wait>(&self, rt: &R) -> usize
         ensures { HasEntries self.now result }
     {
         self.member.lock(rt).member().history().len()
     }
 
-    /// Returns the number of the next frame from `peer`. It leaves no receipt.
+    /// Returns the number of the next frame from `peer`. The call leaves no receipt.
     pub fn next<R: Wait>(&self, rt: &R, peer: u16) -> u64
         requires { IsPeer self.now.keys peer }
         ensures { HasNext self.now peer result }
@@ -557,8 +559,8 @@ impl<S: Beginning> Node<S> {
         member.next(peer)
     }
 
-    /// Returns the last protocol violation that `peer` sent to the member, if there is one. It
-    /// leaves no receipt.
+    /// Returns the last protocol violation that `peer` sent to the member, if there is one. The
+    /// call leaves no receipt.
     // promise: lies
     pub fn lie<R: Wait>(&self, rt: &R, peer: u16) -> Option<Lie>
         requires { IsPeer self.now.keys peer }
@@ -598,8 +600,8 @@ impl<S: Beginning> Node<S> {
         }
     }
 
-    /// Returns whether `peer` may have sent a protocol violation up to now. It takes no lock and
-    /// leaves no receipt. No clause says so, for none names what an atomic holds. It is tested.
+    /// Returns whether `peer` may have sent a protocol violation up to now. The call takes no lock
+    /// and leaves no receipt. No clause says so, for none names what an atomic holds. It is tested.
     pub fn may_have_lied(&self, peer: u16) -> bool {
         self.liars.load(Ordering::SeqCst) & hint_of(peer) != 0
     }
@@ -618,8 +620,8 @@ impl<S: Beginning> Node<S> {
     }
 
     /// Returns whether it was found that the member has lost state, by the member itself or from
-    /// its peers' claims. It takes no lock and leaves no receipt. No clause says so, for none names
-    /// what an atomic holds. It is tested.
+    /// its peers' claims. The call takes no lock and leaves no receipt. No clause says so, for none
+    /// names what an atomic holds. It is tested.
     pub fn forgets(&self) -> bool {
         self.forgets.load(Ordering::SeqCst)
     }
@@ -627,8 +629,8 @@ impl<S: Beginning> Node<S> {
     // Only calls that sent something wake writers. Writers look at a length that no clause ties to
     // the outbound list (`Node::sent_len`), since no clause names what an atomic holds. A wrong
     // length delays frames.
-    /// Returns how many bodies the member sent to all up to now. It takes no lock and leaves no
-    /// receipt. No clause says so, for none names what an atomic holds. It is tested.
+    /// Returns how many bodies the member sent to all up to now. The call takes no lock and leaves
+    /// no receipt. No clause says so, for none names what an atomic holds. It is tested.
     pub fn sent_len(&self) -> u64 {
         self.sent.load(Ordering::SeqCst)
     }
@@ -647,9 +649,9 @@ impl<S: Beginning> Node<S> {
         locked.member().sent(place).is_none() && !stop.load(Ordering::SeqCst)
     }
 
-    /// Sets `stop` and wakes the writers that wait for what the member has still to send. They then
-    /// have no answer. No clause says so, for none names a flag or what a lock protects. It is
-    /// tested.
+    /// Sets `stop` and wakes the writers that wait for what the member has still to send. The
+    /// writers then have no answer. No clause says so, for none names a flag or what a lock
+    /// protects. It is tested.
     pub fn stop_waiting<R: Wait>(&self, rt: &R, stop: &AtomicBool) {
         let locked = self.member.lock(rt);
         stop.store(true, Ordering::SeqCst);

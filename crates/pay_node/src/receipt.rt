@@ -112,8 +112,9 @@ impl Model for Receipt {
 }
 
 impl Receipt {
-    /// Creates the receipt of an event that was handed in. The event is put into `room` unless it
-    /// is an accepted frame: then the room is returned.
+    /// Creates the receipt of `event`, which was handed in at a history of `seen` entries, and of
+    /// its `answer`. The event is put into `room` unless it is an accepted frame: then the room is
+    /// returned.
     pub(crate) fn of_event(
         room: Box<Call>,
         seen: usize,
@@ -136,7 +137,8 @@ impl Receipt {
         }
     }
 
-    /// Creates the receipt of `question` with a copy of its answer.
+    /// Creates the receipt of `question` with a copy of its `answer`, at a history of `seen`
+    /// entries.
     pub(crate) fn of_reading<Q: Question>(
         alloc: Global,
         seen: usize,
@@ -151,7 +153,8 @@ impl Receipt {
         Ok(Receipt { seen, call })
     }
 
-    /// Creates the receipt of the body at `number`, which was shown alone.
+    /// Creates the receipt of `body` at `number`, which was shown alone at a history of `seen`
+    /// entries.
     pub(crate) fn of_body(seen: usize, number: usize, body: SharedBody) -> Receipt
         ensures { result ≡ reading_at seen (reading.Sent number 1 (body ∷ [])) }
     {
@@ -159,8 +162,8 @@ impl Receipt {
         Receipt { seen, call }
     }
 
-    /// Returns how many entries the history had before the call. It is the place of the call's own
-    /// entry, if it has one.
+    /// Returns how many entries the history had before the call. This is the place of the call's
+    /// own entry, if it has one.
     pub fn history_len(&self) -> usize
         ensures { result ≡ self.now.seen }
     {

@@ -125,7 +125,7 @@ impl Model for Seat {
 }
 
 impl Seat {
-    /// Creates a seat without receipts.
+    /// Creates a seat of this `stamp`, without receipts.
     pub(crate) fn new(alloc: Global, stamp: u16) -> Seat
         ensures { result ≡ record { stamp = stamp; receipts = []; marks = [] } }
     {
@@ -171,9 +171,9 @@ impl Seat {
         }
     }
 
-    /// Keeps the receipt of what a member shows to `question`. No second receipt is left if it is
-    /// among the latest, and no later receipt saw more entries or has one. What was right stays
-    /// right.
+    /// Keeps the receipt of the `answer` that `member` shows to `question`. No second receipt is
+    /// left if this one is among the latest and no later receipt saw more entries or has an entry.
+    /// What was right stays right.
     // promise: receipts
     pub(crate) fn note<Q: Question>(
         &mut self,
@@ -208,7 +208,7 @@ impl Seat {
         &self.receipts[first..]
     }
 
-    /// Returns the body that a member sent at the place `number` of all, if it is there. If a
+    /// Returns the body that `member` sent at the place `number` of all, if it is there. If a
     /// receipt that shows this body is kept, no second one is left. What was right stays right.
     // promise: fetched bodies; answered WANTs
     pub(crate) fn note_once(
@@ -300,8 +300,9 @@ fn is_read_now<Q: Question>(
     is_found
 }
 
-/// Keeps the receipt of an event that was handed in, for which there is room. A lack of memory has
-/// no receipt. The room for its call is returned if it wasn't used.
+/// Keeps the receipt of `event`, which was handed in, and its `answer` among `receipts`, which have
+/// space for it. A lack of memory has no receipt. The `room` for the call is returned if it wasn't
+/// used.
 pub(crate) fn keep(
     receipts: &mut Vec<Receipt>,
     room: Box<Call>,
@@ -370,7 +371,7 @@ impl FetchSeat {
         self.seat.make_room(alloc)
     }
 
-    /// Returns the body that a member sent at the place `number` of all, as [`Seat::note_once`].
+    /// Returns the body that `member` sent at the place `number` of all, as [`Seat::note_once`].
     pub(crate) fn note_once(
         &mut self,
         alloc: Global,

@@ -115,8 +115,8 @@ CameInOrder w (Wanted from m) = ⊤
 CameInOrder w (Frame fault) = ⊤
 CameInOrder w WrongKey = ⊤
 
--- With one frame in flight at a time a node is fed as without pipelining, by each peer that keeps
--- to the order, until it looks for a protocol violation of the peer.
+-- With one frame in flight at a time, each peer that keeps to the order feeds a node as without
+-- pipelining. This holds until the node looks for a protocol violation of the peer.
 abbrev pub AheadByOne : Type 0
 AheadByOne =
     (n : NodeFields) (peer : ℕ) (before after : PeerReader) (f : FrameFields) (text : List ℕ)

@@ -24,7 +24,7 @@ pub record IsSentFrom (n : NodeFields) (to number : ℕ) (before after : SeatFie
   pub told : IsShownOnce n before after number body
   pub is : bytes ≡ frame_bytes (sealed_frame n.keys to number body)
 
--- such a frame, from some seat
+-- a frame to a peer with the body at this place, from some seat
 pub record IsSentTo (n : NodeFields) (to number : ℕ) (bytes : List ℕ) : Type 0 where
   pub before : SeatFields
   pub after : SeatFields

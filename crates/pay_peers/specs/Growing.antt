@@ -38,7 +38,7 @@ pub record SeatGrows (peer : ℕ) (old new : SeatFields) : Type 0 where
 abbrev pub HasGrown : ℕ × PeerReader → ℕ × PeerReader → Type 0
 HasGrown old new = (new.0 ≡ old.0) × SeatGrows old.0 old.1.seat new.1.seat
 
--- at each place
+-- at each place, the peer is unchanged and its seat has grown
 pub record EachGrows (old new : List (ℕ × PeerReader)) : Type 0 where
   pub many : length new ≡ length old
   pub each :

@@ -70,7 +70,7 @@ next_after next (Query account answer) = next
 next_after next (Read reading) = next
 next_after next (Withhold reading) = next
 
--- what becomes of such a teller after a desk's call
+-- what becomes of a node's teller after a desk's call
 pub record TellerSays (old : TellerFields) (said : Exchange) (new : TellerFields) : Type 0 where
   pub same : new.node ≡ old.node
   pub told : SeatSays old.node old.seat said new.seat

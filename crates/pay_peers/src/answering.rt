@@ -25,8 +25,8 @@ pub(crate) struct Wanted<'a> {
     pub(crate) number: u64,
 }
 
-/// Authenticates a WANT of a sender with a seat in `seats`. For any other frame it returns the
-/// named sender, if the authentication tag isn't the one under that peer's key.
+/// Authenticates `frame`, a WANT of a sender with a seat in `seats`. For any other frame it returns
+/// the named sender, if the authentication tag isn't the one under that peer's key.
 // promise: news of peers (unopened)
 pub(crate) fn open_want<'a, T: Tagger>(
     tagger: &T,
@@ -70,9 +70,9 @@ fn seat_of(seats: &[(u16, Mutex<FetchSeat>)], peer: u16) -> Option<&(u16, Mutex<
     None
 }
 
-/// Returns the frame that a WANT requests, as soon as its body is sent, or `None` if `stop` is set
-/// before. The frame is encoded for the peer of the seat, and a receipt of the number at this seat
-/// shows its body.
+/// Returns the frame that `wanted` requests, as soon as its body is sent, or `None` if `stop` is
+/// set before. The frame is encoded for the peer of the seat, and a receipt of the number at this
+/// seat shows its body.
 pub(crate) fn answer_want<S, R, T>(
     context: &NodeContext<'_, R, S, T>,
     stop: &AtomicBool,
@@ -101,7 +101,8 @@ where
     }
 }
 
-/// Returns the claim on a challenge of the peer `to`: how many of its frames the member accepted.
+/// Returns the claim on the challenge `nonce` of the peer `to`: how many of its frames the member
+/// accepted.
 // promise: comparing
 pub(crate) fn answer_challenge<S, R, T>(
     context: &NodeContext<'_, R, S, T>,

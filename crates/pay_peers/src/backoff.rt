@@ -17,10 +17,10 @@ pub const QUIET_SECONDS: u64 = 60;
 /// The pause after each connection in milliseconds, with [`Dials::Usual`].
 const PAUSE_MILLIS: u64 = 10;
 
-/// The first pauses that grow, each twice the one before.
+/// The first pauses that grow, in milliseconds: each is twice the one before.
 const FIRST_MILLIS: [u64; 7] = [10, 20, 40, 80, 160, 320, 640];
 
-/// Each pause after those.
+/// The length of each later pause in milliseconds.
 const LONGEST_MILLIS: u64 = 1_000;
 
 /// How often in a row, without an authenticated frame, a worker connects to its peer, and how long

@@ -109,8 +109,9 @@ where
     }
 }
 
-/// Feeds a node from the stream of `peer`. It writes the WANT for all that the peer sent. Then it
-/// passes each frame that is read to the node, and writes the WANT of the answer, if any.
+/// Feeds `node` from `reader`, the stream of `peer`. The loop first writes the WANT for all that
+/// the peer sent. Then it passes each frame that is read to the node, and writes the WANT of the
+/// answer, if any.
 ///
 /// A fault in the frames ends the loop, and is returned. After a failed read, and at the read
 /// limit, the node has received all frames that were read. After another fault it has received a

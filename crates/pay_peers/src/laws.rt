@@ -16,8 +16,8 @@ pub fn opens_by_one()
     ensures { OpensByOne }
 {}
 
-/// States what is requested if all requested frames came. It is the numbers from 0 on, and no more
-/// than the pipelining depth are in flight.
+/// States what is requested if all requested frames came: the numbers from 0 on, with no more in
+/// flight than the pipelining depth.
 // promise: asked ahead
 pub fn asks_for_all()
     ensures { AsksForAll }

@@ -77,8 +77,8 @@ pub(crate) enum Gain {
 }
 
 impl Gain {
-    /// Returns the result of a connection: whether the peer made a claim, and what the seat's
-    /// receipts after the first `before` ones are.
+    /// Returns the result of a connection. `claimed` says whether the peer made a claim, and the
+    /// seat's `receipts` after the first `before` ones belong to the connection.
     pub(crate) fn of(claimed: bool, before: usize, receipts: &[Receipt]) -> Gain
         ensures { result ≡ gain_by claimed (drop before receipts.now) }
     {
@@ -107,8 +107,8 @@ fn have_entry(receipts: &[Receipt]) -> bool
 /// A provider of a worker's streams.
 pub trait Dial<In, Out> {
     /// Tries once to connect to `peer`. If `asks` is set, the first bytes have to come within
-    /// [`CLAIM_SECONDS`]. All other bytes, and the first if it isn't set, have to come within
-    /// [`QUIET_SECONDS`].
+    /// [`CLAIM_SECONDS`]. All other bytes, and the first ones if `asks` isn't set, have to come
+    /// within [`QUIET_SECONDS`].
     ///
     /// [`QUIET_SECONDS`]: crate::QUIET_SECONDS
     fn dial(&self, peer: u16, asks: bool) -> Dialed<In, Out>;
@@ -139,12 +139,12 @@ pub enum Dialed<In, Out> {
 //
 // A peer that doesn't know challenges waits at one for ever, as at a WANT for a place that it
 // hasn't sent yet. So after a challenge without an answer a free node reads without one.
-/// Runs a worker for each peer and its seat. Each worker connects again and again. It requests the
-/// peer's claim, and feeds the node from the connection after the node is free, with up to `ahead`
-/// frames in flight. A worker ends when it is told to stop, or after as many connections in a row
-/// without a result as `dials` allows. A connection that stood for [`QUIET_SECONDS`] and delivered
-/// nothing doesn't count. The `observer` is told what happens to each peer. Returns after all
-/// workers have ended.
+/// Runs a worker for each peer and its seat in `pairs`. Each worker connects again and again. The
+/// worker requests the peer's claim, and feeds the node from the connection after the node is free,
+/// with up to `ahead` frames in flight. A worker ends when it is told to stop, or after as many
+/// connections in a row without a result as `dials` allows. A connection that stood for
+/// [`QUIET_SECONDS`] and delivered nothing doesn't count. The `observer` is told what happens to
+/// each peer. Returns after all workers have ended.
 ///
 /// [`QUIET_SECONDS`]: crate::QUIET_SECONDS
 // promise: workers

@@ -159,9 +159,9 @@ fn ask_for<T: Tagger>(
 // An unexpected frame ends its connection before the node receives it. So neither repeats nor gaps
 // of a faulty member grow the history. The number of a frame that failed authentication is
 // requested again on the next connection.
-/// Feeds a node from the stream of `peer`. It requests the frames that a connection begins with. It
-/// passes each expected frame to the node and requests more, so that up to `ahead` frames are in
-/// flight. The node has no rollback check, or is free.
+/// Feeds a node from the stream of `peer`. The loop requests the frames that a connection begins
+/// with. It passes each expected frame to the node and requests more, so that up to `ahead` frames
+/// are in flight. The node has no rollback check, or is free.
 ///
 /// An unexpected frame ends the loop: a frame out of the order of the requests, or in the name of
 /// another member. So does the next frame of a peer with a protocol violation. A fault in the

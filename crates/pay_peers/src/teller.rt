@@ -30,8 +30,8 @@ impl<'a, R, S: Beginning, K> Model for NodeTeller<'a, R, S, K> {
 }
 
 impl<'a, R, S: Beginning, K> NodeTeller<'a, R, S, K> {
-    /// Creates a teller that keeps the receipts of its calls at `seat`. The node's member submitted
-    /// `next` values before.
+    /// Creates a teller of `node` that keeps the receipts of its calls at `seat`. The node's member
+    /// submitted `next` values before.
     // promise: ids
     pub fn new(
         rt: &'a R,

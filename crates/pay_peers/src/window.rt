@@ -5,10 +5,11 @@ ghost use Rattle.pay_peers.specs.Window.{from_behind, moved_window, empty_window
 /// The greatest pipelining depth: the most frames of a peer that may be in flight.
 ///
 /// That many WANTs, of 56 bytes each, may be under way while the peer waits, or writes to this
-/// node. A window of 1,024 has 57,344 bytes of them. If the two sockets hold less between them, the
-/// requesting side waits in a write, and so reads nothing. The answering side may then wait to
-/// write. A writer of WANTs therefore has to abandon a write that takes too long, as a node's
-/// writer does. Its next connection begins with a small window, and what came before stays.
+/// node. The WANTs of a window of 1,024 frames have 57,344 bytes. If the two sockets hold less
+/// between them, the requesting side waits in a write, and so reads nothing. The answering side may
+/// then wait to write. A writer of WANTs therefore has to abandon a write that takes too long, as a
+/// node's writer does. The writer's next connection begins with a small window, and what came
+/// before stays.
 pub const MOST_AHEAD: u64 = 1_024;
 
 /// The usual pipelining depth: 14,336 bytes of WANTs, which fit into the send buffer that Linux
@@ -89,8 +90,8 @@ impl Window {
         Some(Window { due: from, asked })
     }
 
-    /// Advances past the expected frame. `next` is the number that the member expects now. Returns
-    /// the numbers to request then.
+    /// Advances past the expected frame, at a depth of `ahead` frames. `next` is the number that
+    /// the member expects now. Returns the numbers to request then.
     pub(crate) fn move_to(&mut self, next: u64, ahead: Ahead) -> Asks
         ensures moved { self.new ≡ moved_window ahead.count self.old next }
         ensures from { result.from ≡ from_behind self.old next }

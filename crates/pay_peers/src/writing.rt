@@ -18,8 +18,8 @@ use std::alloc::{AllocError, Global};
 use std::sync::atomic::{AtomicBool, AtomicU64, Ordering};
 use std::sync::{Mutex, Wait};
 
-/// The decision whether a connection continues as its WANTs are authenticated. It is also told of a
-/// frame that ends the connection.
+/// The decision whether a connection continues as its WANTs are authenticated. An admission is also
+/// told of a frame that ends the connection.
 pub trait Admission {
     /// Notes that a WANT of `peer` requests a place above all earlier requests on the connection,
     /// or the first one. Returns whether the connection continues.
@@ -140,8 +140,8 @@ fn needs_no_wait(frame: &FrameRef<'_>, sent: u64) -> bool
 //
 // An inbound connection ends at its first wrong tag, which no correct peer sends. Otherwise anybody
 // without a key could have tags computed as fast as bytes come.
-/// Answers a peer's WANTs on a connection. It reads frames, and writes the frame that each WANT
-/// requests, after the member sent it. A claim on a challenge is written at once.
+/// Answers a peer's WANTs on a connection. The loop reads frames, and writes the frame that each
+/// WANT requests, after the member sent it. A claim on a challenge is written at once.
 ///
 /// The connection ends at a frame with a tag that isn't the one under the shared key. Some frames
 /// are passed over without an answer: other frames that fail authentication, are no WANT, request

@@ -45,7 +45,8 @@ StartsAs g k logged file =
     → IsLogOf k (log_key_of k) (header_bytes (header_of g k)) file r qs
     → HasLogged logged r.member r.ids
 
--- The entries and ids of such a start begin with these, or a checksum fits by chance.
+-- The entries and ids of a start that reads this file begin with these, or a checksum fits by
+-- chance.
 abbrev pub StartsWith : GenesisFields → KeyFields → List LoggedFields → List ℕ → Type 0
 StartsWith g k logged file =
     (r : ResumedFields) (qs : List (List ℕ))

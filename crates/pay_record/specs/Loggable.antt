@@ -89,7 +89,7 @@ pub record FrameStandsIn (k : KeyFields) (bytes : List ℕ) (c : CheckedFields) 
   pub rest : List ℕ
   pub is : bytes ≡ frame_part c.frame ++ rest
 
--- the reading of such a frame alone
+-- the reading of the part of a frame alone
 abbrev pub IsFrameRead : KeyFields → List ℕ → Result (CheckedFields × ℕ) RecordFault → Type 0
 IsFrameRead k bytes (Ok (c, size)) =
     FrameStandsIn k bytes c × (size ≡ length (frame_part c.frame))
@@ -103,7 +103,7 @@ pub record BodyStandsIn (bytes : List ℕ) (b : BodyFields) : Type 0 where
   pub rest : List ℕ
   pub is : bytes ≡ body_bytes b ++ rest
 
--- the reading of such a body
+-- the reading of a body alone
 abbrev pub IsBodyRead : List ℕ → Result (BodyFields × ℕ) RecordFault → Type 0
 IsBodyRead bytes (Ok (b, size)) = BodyStandsIn bytes b × (size ≡ length (body_bytes b))
 IsBodyRead bytes (Err NoRecord) = (b : BodyFields) → BodyStandsIn bytes b → ⊥

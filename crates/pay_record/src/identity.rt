@@ -17,8 +17,8 @@ const KEY_TEXT: &[u8] = b"payd log 1";
 /// The text that a header's fingerprint of the keys is computed from.
 const FINGERPRINT_TEXT: &[u8] = b"payd log keys 4";
 
-/// Returns the key of a member's log. Nobody else can compute it, since it depends on all keys of
-/// the member.
+/// Returns the key of the log of the member with these `keys`. Nobody else can compute it, since it
+/// depends on all keys of the member.
 pub fn log_key(alloc: Global, keys: &Keys) -> Result<[u8; 32], AllocError>
     ensures { IfOk result (λ key. key ≡ log_key_of keys.now) }
 {
@@ -26,7 +26,7 @@ pub fn log_key(alloc: Global, keys: &Keys) -> Result<[u8; 32], AllocError>
     Ok(mac(&all, KEY_TEXT))
 }
 
-/// Returns the header of a member's log.
+/// Returns the header of the log of the member of `genesis` with these `keys`.
 pub fn log_header(alloc: Global, genesis: &Genesis, keys: &Keys) -> Result<Header, AllocError>
     ensures { IfOk result (λ header. header ≡ header_of genesis.now keys.now) }
 {

@@ -30,8 +30,9 @@ pub fn one_list()
     ensures { OneList }
 {}
 
-/// States what a member has that starts again from what a crash left. It has all acknowledged
-/// entries, and then all of those under way or none of them, or a checksum fits by chance.
+/// States what a member has that starts again from what a crash left. The member has all
+/// acknowledged entries, and then all of those under way or none of them, or a checksum fits by
+/// chance.
 // promise: starting again
 pub fn written_is_resumed()
     ensures { WrittenIsResumed }

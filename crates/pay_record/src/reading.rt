@@ -25,7 +25,7 @@ pub(crate) const FRAME: u8 = 4;
 /// The greatest size of a record in bytes.
 pub const MOST_RECORD: usize = 1062;
 
-/// Returns the first byte, and the bytes after it.
+/// Returns the first of `bytes`, and those after it.
 pub(crate) fn one(bytes: &[u8]) -> Option<(u8, &[u8])>
     ensures some { IfSome result (λ r. bytes.now ≡ r.0 ∷ r.1.now) }
     ensures none { IfNone result (length bytes.now < 1) }
@@ -36,7 +36,7 @@ pub(crate) fn one(bytes: &[u8]) -> Option<(u8, &[u8])>
     }
 }
 
-/// Returns a number of two bytes, and the bytes after it.
+/// Returns the number in the first two of `bytes`, and those after it.
 #[tactic(auto, using(std::proofs::lemmas::Nat::be_bytes_2))]
 pub(crate) fn two(bytes: &[u8]) -> Option<(u16, &[u8])>
     ensures some { IfSome result (λ r. bytes.now ≡ to_be_bytes w16 r.0 ++ r.1.now) }
@@ -49,7 +49,7 @@ pub(crate) fn two(bytes: &[u8]) -> Option<(u16, &[u8])>
     }
 }
 
-/// Returns a number of four bytes, and the bytes after it.
+/// Returns the number in the first four of `bytes`, and those after it.
 #[tactic(auto, using(std::proofs::lemmas::Nat::be_bytes_4))]
 pub(crate) fn four(bytes: &[u8]) -> Option<(u32, &[u8])>
     ensures some { IfSome result (λ r. bytes.now ≡ to_be_bytes w32 r.0 ++ r.1.now) }
@@ -62,7 +62,7 @@ pub(crate) fn four(bytes: &[u8]) -> Option<(u32, &[u8])>
     }
 }
 
-/// Returns a number of eight bytes, and the bytes after it.
+/// Returns the number in the first eight of `bytes`, and those after it.
 #[tactic(auto, using(std::proofs::lemmas::Nat::be_bytes_8))]
 pub(crate) fn eight(bytes: &[u8]) -> Option<(u64, &[u8])>
     ensures some { IfSome result (λ r. bytes.now ≡ to_be_bytes w64 r.0 ++ r.1.now) }

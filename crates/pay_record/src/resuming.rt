@@ -32,9 +32,9 @@ use pay_log::{Device, Log, LogFault, Recovered, Refused, Sink, read_log, recover
 use pay_member::{Event, HistoryEntry, Member, MemberFault};
 use std::alloc::{AllocError, Global};
 
-/// Replays the entries of a payload's records at a member, and keeps the ids of the submitted
-/// values among them. Each reply has to be the record's. After a fault neither the member nor the
-/// ids may be used further.
+/// Replays the entries of the records in `payload` at `member`, and keeps the ids of the submitted
+/// values among them in `ids`. Each reply has to be the record's. After a fault neither `member`
+/// nor `ids` may be used further.
 pub(crate) fn take_payload<I: Instance + Drop, B: Settle + Drop>(
     alloc: Global,
     member: &mut Member<I, B>,
@@ -158,7 +158,7 @@ pub struct Resumed<I: Instance + Drop, B: Settle + Drop> {
     pub len: usize,
 }
 
-/// Returns a fresh member, and its log in the empty file `device`.
+/// Returns a fresh member of `genesis` with these `keys`, and its log in the empty file `device`.
 // promise: starting again (log)
 pub fn begin<D: Device + Drop, I: Instance + Drop, B: Settle + Drop>(
     alloc: Global,
@@ -187,9 +187,9 @@ pub fn begin<D: Device + Drop, I: Instance + Drop, B: Settle + Drop>(
 }
 
 /// Returns the member with the history of the records in the log `old`, and the log, which is
-/// written again into the empty file `new`. The member has this genesis and these keys, and each
-/// frame is authenticated again. A member that lost state isn't started again. The old file stays
-/// unchanged.
+/// written again into the empty file `new`. The member has this `genesis` and these `keys`, and
+/// each frame is authenticated again. A member that lost state isn't started again. The old file
+/// stays unchanged.
 // promise: starting again (records, resumed, illegal); forgetting (remembers, forgotten)
 pub fn restart<D: Device + Drop, I: Instance + Drop, B: Settle + Drop>(
     alloc: Global,
@@ -259,8 +259,8 @@ fn refuse_forgotten<I: Instance + Drop, B: Settle + Drop>(
     Ok(())
 }
 
-/// Returns the member with the history of the records in the log `device`, which is only read. It
-/// may have lost state.
+/// Returns the member of `genesis` with these `keys` and the history of the records in the log
+/// `device`, which is only read. The member may have lost state.
 pub fn view<D: Device, I: Instance + Drop, B: Settle + Drop>(
     alloc: Global,
     device: &mut D,

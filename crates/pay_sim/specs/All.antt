@@ -24,7 +24,7 @@ pub data Draws (c : ScriptGroup) (from to : ℕ)
       → next_untaken c es from to ≡ Some frame → Makes c es (Bring to frame) (Ok reply)
       → Draws c from to (es ++ Bring to frame ∷ []) last stop → Draws c from to es last stop
 
--- one after the other, up to the first that is stopped
+-- members do this one after the other, up to the first that is stopped
 abbrev pub InTurn : (ℕ → List WorldEvent → List WorldEvent → Option RunStop → Type 0) → List ℕ
     → List WorldEvent → List WorldEvent → Option RunStop → Type 0
 InTurn does [] es last stop = (last ≡ es) × (stop ≡ None)
@@ -37,7 +37,7 @@ abbrev pub FeedsMember :
     ScriptGroup → ℕ → List WorldEvent → List WorldEvent → Option RunStop → Type 0
 FeedsMember c to = InTurn (λ from. Draws c from to) (range_with_len 0 c.genesis.members)
 
--- each member does this, in this order
+-- each member accepts frames of all others, in the order of the members' numbers
 abbrev pub MakesPass : ScriptGroup → List WorldEvent → List WorldEvent → Option RunStop → Type 0
 MakesPass c = InTurn (FeedsMember c) (range_with_len 0 c.genesis.members)
 

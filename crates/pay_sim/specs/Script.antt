@@ -50,7 +50,7 @@ Tells c es e (Prints text last) =
     × (last ≡ es ++ e ∷ [])
 Tells c es e (Stops stop) = Makes c es e (Err stop)
 
--- the frame at that place is delivered, if it exists
+-- this frame is delivered, if it exists
 abbrev pub TellsSent : ScriptGroup → List WorldEvent → ℕ → Option (List ℕ) → Told → Type 0
 TellsSent c es to None told = told ≡ Prints (with_feed (codes "absent")) es
 TellsSent c es to (Some frame) told = Tells c es (event.Bring to frame) told

@@ -56,7 +56,7 @@ impl<I: Instance + Drop, B: Settle + Drop> Model for Game<I, B> {
 }
 
 impl<I: Instance + Drop, B: Settle + Drop> Game<I, B> {
-    /// Creates the world of a group before any event.
+    /// Creates the world of `group` before any event.
     pub(crate) fn new(alloc: Global, group: &ScriptGroup) -> Result<Game<I, B>, AllocError>
         requires { AreLiarsOf group.now.genesis group.now.liars }
         ensures { IfOk result (λ game. IsAfter group.now [] game) }
@@ -115,7 +115,7 @@ impl<I: Instance + Drop, B: Settle + Drop> Game<I, B> {
         self.made
     }
 
-    /// Makes an event, unless the limit of events is reached.
+    /// Makes `event`, unless the limit of events is reached.
     fn make(&mut self, alloc: Global, event: WorldEvent) -> Result<WorldReply, Halt>
         ensures made { (c : ScriptGroup) (es : List WorldEvent) → IsAfter c es self.old
             → IsMade c es event self.new result }
@@ -137,7 +137,7 @@ impl<I: Instance + Drop, B: Settle + Drop> Game<I, B> {
         }
     }
 
-    /// Makes an event, and appends what its member replied to `out`.
+    /// Makes `event`, and appends what its member replied to `out`.
     fn tell(&mut self, alloc: Global, event: WorldEvent, out: &mut Vec<u8>) -> Result<(), Halt>
         ensures { (c : ScriptGroup) (es : List WorldEvent) → IsAfter c es self.old
             → IsDone (Tells c es event) c out.old.items out.new.items self.new result }
@@ -288,8 +288,8 @@ impl<I: Instance + Drop, B: Settle + Drop> Game<I, B> {
         }
     }
 
-    /// Passes on a frame that a correct member sent to another, unless the limit of events is
-    /// reached.
+    /// Passes the frame `number` of the correct member `from` on to the member `to`, unless the
+    /// limit of events is reached.
     fn pass_on(
         &mut self,
         alloc: Global,
@@ -342,8 +342,8 @@ impl<I: Instance + Drop, B: Settle + Drop> Game<I, B> {
         }
     }
 
-    /// Returns the frame at a place of a correct member's list, encoded for the member `to`. If
-    /// `to` is no correct member, it returns no bytes.
+    /// Returns the frame at the place `number` of the list of the correct member `from`, encoded
+    /// for the member `to`, if there is one. If `to` is no correct member, the frame is empty.
     fn frame_for(
         &self,
         alloc: Global,
@@ -362,7 +362,8 @@ impl<I: Instance + Drop, B: Settle + Drop> Game<I, B> {
         }
     }
 
-    /// Returns the frame at a place of a correct member's list, encoded for the member `to`.
+    /// Returns the frame at the place `number` of the list of the correct member `from`, encoded
+    /// for the member `to`, if there is one.
     fn frame_sent(
         &self,
         alloc: Global,

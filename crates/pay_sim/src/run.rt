@@ -157,7 +157,7 @@ impl<I: Instance + Drop, B: Settle + Drop> Answerer for Play<I, B> {
     }
 }
 
-/// Returns the world of the group in a script's first line.
+/// Returns the world of the group in `line`, a script's first line.
 fn build_game<I: Instance + Drop, B: Settle + Drop>(
     alloc: Global,
     line: &[u8],
@@ -170,7 +170,7 @@ fn build_game<I: Instance + Drop, B: Settle + Drop>(
     }
 }
 
-/// Does what a line after the first says.
+/// Does what `line`, which stands after the first, says in `game`. Appends what it prints to `out`.
 fn obey_line<I: Instance + Drop, B: Settle + Drop>(
     alloc: Global,
     game: &mut Game<I, B>,
@@ -189,7 +189,7 @@ fn obey_line<I: Instance + Drop, B: Settle + Drop>(
     }
 }
 
-/// Returns the last line of a run that is stopped.
+/// Returns the last line of a run that `stop` stops at the line of the number `line`.
 fn last_line(alloc: Global, stop: RunStop, line: u64) -> Result<Vec<u8>, AllocError>
     ensures { IfOk result (λ text. text.items ≡ with_feed (last_words stop line)) }
 {
@@ -213,8 +213,8 @@ fn push_numbered(out: &mut Vec<u8>, words: &str, number: u64) -> Result<(), Allo
 /// The greatest size of a script's line in bytes, without its line feed.
 pub const LONGEST_LINE: usize = 4096;
 
-/// Plays the script that is read: a first line with a group, and commands after it. It writes what
-/// they print, as a function of the script and of the histories that its events make.
+/// Plays the script that is read: a first line with a group, and commands after it. The loop writes
+/// what the commands print, as a function of the script and of the histories that its events make.
 ///
 /// A forged frame, a line that is none, and an event beyond the limit are reported in the last line
 /// and in the result. After a fault of a device, a prefix of the text has been written.

@@ -57,7 +57,8 @@ impl Tagger for PairTagger {
     }
 }
 
-/// Returns the bytes of a frame with its right tag under the test key of the two members.
+/// Returns the bytes of the frame `number` with `body`, with its right tag under the test key of
+/// the members `from` and `to`.
 #[tactic(auto, unfolding(crate::specs::TestFrames::test_frame))]
 pub(crate) fn test_frame<T: Tagger>(
     alloc: Global,

@@ -61,7 +61,7 @@ fn push_balances<I: Instance + Drop, B: Settle + Drop>(
     Ok(())
 }
 
-/// Appends the line of what a member replied to `out`.
+/// Appends the line of what `member` replied, `reply`, to `out`.
 #[tactic(auto, unfolding(crate::specs::Words::reply_line))]
 pub(crate) fn push_reply(
     out: &mut Vec<u8>,
@@ -158,7 +158,7 @@ fn push_link(out: &mut Vec<u8>, fault: LinkFault) -> Result<(), AllocError>
     fault.push_words(out)
 }
 
-/// Appends the refuser (`at`: a member, a frame or a link), and the fault's number and name, to
+/// Appends the refuser (`at`: a member, a frame or a link), and the fault's `number` and `name`, to
 /// `out`.
 #[tactic(auto, unfolding(crate::specs::Words::refused_words_at))]
 pub fn push_refused(out: &mut Vec<u8>, at: &str, number: u8, name: &str) -> Result<(), AllocError>

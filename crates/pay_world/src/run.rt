@@ -31,7 +31,7 @@ pub fn group_test_keys(alloc: Global, genesis: &Genesis) -> Result<Vec<Keys>, Al
     Ok(keys)
 }
 
-/// Returns the world of a group after a list of `events`. There are keys for each member, at its
+/// Returns the world of a group after a list of `events`. There are `keys` for each member, at its
 /// place.
 ///
 /// Refuses a list with a forged frame (`Forged`), and names the first. Except for lack of memory it

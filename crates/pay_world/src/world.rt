@@ -73,7 +73,7 @@ impl<I: Instance + Drop, B: Settle + Drop> Model for World<I, B> {
 }
 
 impl<I: Instance + Drop, B: Settle + Drop> World<I, B> {
-    /// Creates a world with the faulty members `liars`, without events. There are keys for each
+    /// Creates a world with the faulty members `liars`, without events. There are `keys` for each
     /// member, at its place.
     // promise: world's step
     pub fn new(

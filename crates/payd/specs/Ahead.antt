@@ -5,11 +5,11 @@ use Rattle.pay_text.specs.Numbers.{number_of}
 use Rattle.payd.specs.declared.stop.Stop.{Stop}
 use Rattle.payd.specs.declared.stop.Stop.TheVariants as stop
 
--- this count, if it is allowed
+-- a pipelining depth of this count, if it is allowed
 abbrev pub ahead_within : ℕ → Option ℕ
 ahead_within count = if nat_lt 0 count && nat_le count 1024 then Some count else None
 
--- what a word gives, or nothing if it is no such number
+-- the pipelining depth that a word gives, or nothing if it gives none
 abbrev pub ahead_by : List ℕ → Option ℕ
 ahead_by word = option_and_then ahead_within (number_of word)
 
@@ -18,7 +18,7 @@ abbrev pub ahead_in : Option (List ℕ) → Option ℕ
 ahead_in None = Some 256
 ahead_in (Some word) = ahead_by word
 
--- the program stops because a word is no such number
+-- the program stops because a word gives no pipelining depth
 abbrev pub IsAheadStop : Option (List ℕ) → Stop → Type 0
 IsAheadStop word (stop.Ahead named) = (word ≡ Some named.now) × (ahead_by named.now ≡ None)
 IsAheadStop word _ = ⊥

@@ -18,7 +18,7 @@ dials_by word =
     if bytes_eq word (codes "always") then Some Always
     else option_and_then dials_of_count (number_of word)
 
--- without a word the usual ones
+-- without a word the usual dials
 abbrev pub dials_in : Option (List ℕ) → Option Dials
 dials_in None = Some Usual
 dials_in (Some word) = dials_by word

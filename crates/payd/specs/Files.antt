@@ -106,7 +106,8 @@ IsGenesisFault name bytes stop =
     IsSaidOf name Genesis genesis.Memory stop
     ⊎ ((fault : GenesisFault) × IsSaidOf name Genesis fault stop × (genesis_in bytes ≡ Err fault))
 
--- why they are no keys, for a genesis of `members` members
+-- why bytes of a file of this name are no keys, for a genesis of `members` members: they have this
+-- fault, or memory ran out
 abbrev pub IsKeysFault : List ℕ → ℕ → List ℕ → Stop → Type 0
 IsKeysFault name members bytes stop =
     IsSaidOf name Keys keys.Memory stop
@@ -167,7 +168,7 @@ IsExportOf holds name e = IsFileJudged holds name export_in (Ok e)
 abbrev pub IsExportStop : (List ℕ → List ℕ → Type 0) → List ℕ → Stop → Type 0
 IsExportStop holds name stop = IsStop holds name export_in Export export.Memory stop
 
--- Exports of the first names are read, and the file after them isn't one.
+-- Exports of the first names are read, and the file after them isn't an export.
 pub record IsExportsStop (holds : List ℕ → List ℕ → Type 0) (names : List (List ℕ)) (stop : Stop)
     : Type 0 where
   pub first : List (List ℕ)

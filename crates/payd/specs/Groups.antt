@@ -74,7 +74,7 @@ fifth_words digest at =
     ∷ slice_index digest (5 * at + 1) ∷ slice_index digest (5 * at + 2)
     ∷ slice_index digest (5 * at + 3) ∷ slice_index digest (5 * at + 4) ∷ []))
 
--- this count of such numbers
+-- this count of groups of digits
 abbrev pub fifths_words : List ℕ → ℕ → List ℕ
 fifths_words digest zero = []
 fifths_words digest (suc count) = fifths_words digest count ++ fifth_words digest count
@@ -98,8 +98,8 @@ digits_of g bytes = option_map first_digits (option_and_then (group_text g) (val
 abbrev pub digits_named : List ℕ → Option (List ℕ)
 digits_named bytes = option_and_then (text_named (codes "digest")) (value_in bytes)
 
--- keys that name these digits belong to another group than that with those digits; keys without
--- digits belong to any group, and keys with digits to no group without
+-- Keys that name these digits belong to another group, if the group has other digits or no digits.
+-- Keys without digits belong to any group.
 abbrev pub IsOther : Option (List ℕ) → Option (List ℕ) → Type 0
 IsOther None digits = ⊥
 IsOther (Some named) None = ⊤

@@ -35,7 +35,8 @@ pub record IsStatementIn (holds : List ℕ → List ℕ → Type 0) (name : List
   pub read : IsExportOf holds name e
   pub said : Some text ≡ statement_said e account
 
--- why there is none: the file isn't an export, or there is no statement of that account
+-- why there is no statement in a file: the file isn't an export, or there is no statement of that
+-- account
 abbrev pub IsNoStatementIn :
     (List ℕ → List ℕ → Type 0) → List ℕ → Option (List ℕ) → Stop → Type 0
 IsNoStatementIn holds name account stop =

@@ -39,8 +39,8 @@ fn is_control(byte: u8) -> bool
 /// The prefix of a mistake's text, as the reader of the words writes it.
 const BEGINNING: &str = "error: ";
 
-/// Prints what is wrong with the words, and the remedies in the text of the mistake: a line for
-/// each that isn't empty.
+/// Prints what is wrong with the words, and the remedies in `text`, the text of the mistake: a line
+/// for each that isn't empty.
 pub(crate) fn say_mistake(rt: &impl Eprint, text: &str) {
     let text = text.strip_prefix(BEGINNING).unwrap_or(text);
     for line in text.lines() {
@@ -62,8 +62,8 @@ const OTHER_GROUP: &str =
     "these keys are of another group than the genesis's file, or it says something else since they \
 were made";
 
-/// Prints what is known about a fault in one line, if its own line doesn't say all. The line names
-/// the folder of a job that has one.
+/// Prints what is known about the fault `stop` in one line, if its own line doesn't say all. The
+/// line names the `folder` of a job that has one.
 pub(crate) fn say_advice(rt: &impl Eprint, stop: &Stop, folder: Option<&str>) {
     match stop {
         Stop::File(name, ErrorKind::FileTooLarge) => {
@@ -97,7 +97,7 @@ pub(crate) fn say_advice(rt: &impl Eprint, stop: &Stop, folder: Option<&str>) {
     }
 }
 
-/// Prints the remedy for a fault of a log. The log may belong to a node that runs.
+/// Prints the remedy for `fault`, a fault of a log. The log may belong to a node that runs.
 pub(crate) fn say_log_advice(rt: &impl Eprint, fault: LogFault) {
     let advice = log_advice(fault);
     let _ = eprintln!(rt; "payd: {advice}");
@@ -123,13 +123,14 @@ fn say_disk(rt: &impl Eprint, folder: Option<&str>, kind: ErrorKind) {
     };
 }
 
-/// Prints why a file of a node can't be written. Its payments don't depend on that file.
+/// Prints why the file `path` of a node can't be written. The node's payments don't depend on that
+/// file.
 pub(crate) fn say_unwritten(rt: &impl Eprint, path: &str, kind: ErrorKind) {
     let why = reason_of(kind);
     let _ = eprintln!(rt; "payd: {path} can't be written: {why}");
 }
 
-/// Returns the remedy for a fault, if its line doesn't say all.
+/// Returns the remedy for the fault `stop`, if its line doesn't say all.
 fn advice_on(stop: &Stop) -> Option<&'static str>
     ensures { is_some result ≡ has_advice stop.now }
 {
@@ -230,7 +231,7 @@ fn close_advice(fault: CloseFault) -> &'static str {
     }
 }
 
-/// Returns the remedy for a fault of a log.
+/// Returns the remedy for `fault`, a fault of a log.
 fn log_advice(fault: LogFault) -> &'static str {
     match fault {
         LogFault::Memory => NO_MEMORY,

@@ -60,7 +60,8 @@ pub(crate) struct FiguresFile<'a, R> {
 }
 
 impl<'a, R: Files + Clock> FiguresFile<'a, R> {
-    /// Returns the file in a folder, which isn't written yet.
+    /// Returns the file of metrics in `folder`, which isn't written yet. `reads` counts the reads
+    /// of the desk's input.
     pub(crate) fn new(
         rt: &'a R,
         alloc: Global,

@@ -150,7 +150,7 @@ fn memory_of_byte(byte: u8) -> u64
     }
 }
 
-/// Returns a member's genesis and its keys, from the files of these names.
+/// Returns a member's genesis and its keys, from the files of the names `genesis` and `keys`.
 // promise: words and files
 pub(crate) fn member_of<'a, F: NamedFiles>(
     alloc: Global,
@@ -168,8 +168,8 @@ pub(crate) fn member_of<'a, F: NamedFiles>(
     Ok((genesis, keys))
 }
 
-/// Returns a member's genesis and its keys. If a file isn't named, four members or the test keys
-/// take its place.
+/// Returns a member's genesis and its keys, from the files of the names `genesis` and `keys`. If a
+/// file isn't named, four members or the test keys take its place.
 pub(crate) fn member_or_test<'a, F: NamedFiles>(
     alloc: Global,
     files: &F,
@@ -269,8 +269,8 @@ fn keys_of<'a, F: NamedFiles>(
     }
 }
 
-/// Returns what is wrong with the exports in the files of these `names`, if anything is. Each is
-/// dropped before the next is read.
+/// Returns what is wrong with the exports in the files of these `names`, if anything is. Each
+/// export is dropped before the next is read.
 // promise: words and files
 pub(crate) fn verdict_on<'a, F: NamedFiles>(
     alloc: Global,
@@ -290,7 +290,8 @@ pub(crate) fn verdict_on<'a, F: NamedFiles>(
     Ok(auditor.verdict())
 }
 
-/// Returns the exports in the files of these `names`, in their order. All are in memory at once.
+/// Returns the exports in the files of these `names`, in their order. All exports are in memory at
+/// once.
 // promise: words and files
 pub(crate) fn exports_of<'a, F: NamedFiles>(
     alloc: Global,

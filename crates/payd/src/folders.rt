@@ -56,7 +56,7 @@ pub(crate) struct Copies {
     keys: Vec<u8>,
 }
 
-/// Returns the contents of the files of these names.
+/// Returns the contents of the files of the names `genesis` and `keys`.
 pub(crate) fn given_in<'a, F: NamedFiles>(
     alloc: Global,
     files: &F,
@@ -189,7 +189,8 @@ pub(crate) struct Opened {
     pub(crate) lock: LogLock,
 }
 
-/// Returns the member in the folder `path`: from its log, or from a log that is made there.
+/// Returns the member in the folder `path`: from its log, or from a log that is made there if
+/// `makes_new` is set.
 pub(crate) fn open_member<R: Files<File = File>>(
     alloc: Global,
     rt: &R,

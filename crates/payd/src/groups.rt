@@ -42,7 +42,7 @@ pub(crate) struct MemberSaid<'a> {
 }
 
 impl Called {
-    /// Returns the number and the name of a member.
+    /// Returns the `number` and the name of a member.
     pub(crate) fn member(&self, number: u16) -> MemberSaid<'_>
         ensures { result.number ≡ number }
     {
@@ -52,7 +52,7 @@ impl Called {
         }
     }
 
-    /// Returns a member's name, if it has one that stays in its line.
+    /// Returns the name of the member `number`, if it has one that stays in its line.
     pub(crate) fn name(&self, number: u16) -> Option<&str> {
         let name = self.names.get(usize::from(number))?.as_str();
         if is_plain(name) { Some(name) } else { None }
@@ -91,8 +91,8 @@ impl fmt::Display for MemberSaid<'_> {
     }
 }
 
-// Returns whether `name` has nothing that hides it or ends its line. It may have letters and digits
-// of any script, and what may stand between them.
+// Returns whether `name` has nothing that hides it or ends its line. The name may have letters and
+// digits of any script, and what may stand between them.
 fn is_plain(name: &str) -> bool {
     !name.is_empty()
         && name.chars().all(|letter| letter.is_alphanumeric()

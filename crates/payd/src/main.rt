@@ -121,7 +121,7 @@ fn words_given(rt: &(impl Env + AllocGlobal)) -> io::Result<Vec<String>> {
     Ok(given)
 }
 
-/// Judges the frames on standard input, after the files are read.
+/// Judges the frames on standard input, after the files `genesis` and `keys` are read.
 fn check<'a>(
     alloc: Global,
     rt: &(impl Files + Input + Print),
@@ -152,7 +152,8 @@ fn judge_frames(
     run_check(alloc, &tagger, genesis, checker, &mut reader, &mut writer)
 }
 
-/// Answers the lines on standard input, after the files are read. The member has no peers.
+/// Answers the lines on standard input, after the files `genesis` and `keys` are read. The member
+/// has no peers.
 fn serve_desk<'a>(
     alloc: Global,
     rt: &(impl Files + Input + Print),
@@ -181,7 +182,7 @@ fn answer_lines<T: Teller + Drop>(
 }
 
 /// Prints what is wrong with the exports in the files of these `names`, if anything is, or all that
-/// is wrong.
+/// is wrong if `all` is set.
 fn audit<'a, R: Print, F: NamedFiles>(
     alloc: Global,
     rt: &R,
@@ -226,7 +227,7 @@ fn book<'a, R: Print, F: NamedFiles>(
     Ok(is_book)
 }
 
-/// Prints the statement of an account, or those of all, from the export in this file.
+/// Prints the statement of `account`, or those of all accounts, from the file `export`.
 fn statement<'a>(
     alloc: Global,
     rt: &(impl Files + Print),
@@ -237,7 +238,7 @@ fn statement<'a>(
     Ok(print_text(rt, text)?)
 }
 
-/// Returns the statement of an account, or those of all, from the export in this file.
+/// Returns the statement of `account`, or those of all accounts, from the file `export`.
 // promise: statements of exports
 fn statement_in<'a, F: NamedFiles>(
     alloc: Global,
@@ -254,7 +255,7 @@ fn statement_in<'a, F: NamedFiles>(
     statement_said(alloc, &export, account)
 }
 
-/// Prints the journal of the export in this file, on this date or on today's.
+/// Prints the journal of the file `export`, on this `date` or on today's.
 fn journal<'a>(
     alloc: Global,
     rt: &(impl Files + Print + Clock),
@@ -265,7 +266,7 @@ fn journal<'a>(
     Ok(print_text(rt, text)?)
 }
 
-/// Returns the journal of the export in this file, on this date or on today's.
+/// Returns the journal of the file `export`, on this `date` or on today's.
 fn journal_in<'a>(
     alloc: Global,
     rt: &(impl Files + Clock),
@@ -277,7 +278,7 @@ fn journal_in<'a>(
     Ok(journal_text(alloc, &export, date)?)
 }
 
-/// Prints a text that is in memory as a whole.
+/// Prints `text`, which is in memory as a whole.
 fn print_text(rt: &impl Print, text: Vec<u8>) -> Result<(), StreamFault>
     ensures { IfErr result (λ fault. fault ≡ StreamFault.Write) }
 {

@@ -176,7 +176,7 @@ struct Sample {
     value: u64,
 }
 
-/// Returns the text of all metrics, without those that have no value.
+/// Returns the text of all metrics in `node` and `own`, without those that have no value.
 // promise: figures
 pub(crate) fn metrics_text(
     alloc: Global,
@@ -236,7 +236,7 @@ fn sample_if(alloc: Global, label: Label, value: Option<u64>) -> Result<Vec<Samp
     Ok(samples)
 }
 
-/// Returns a sample of each peer with a known value.
+/// Returns a sample of `figure` for each of the `peers` with a known value.
 fn samples_of_peers(
     alloc: Global,
     figure: OfPeer,
@@ -267,7 +267,7 @@ fn value_of_peer(figure: OfPeer, peer: &PeerFigures) -> Option<u64>
     }
 }
 
-/// Returns a sample of each account, its front.
+/// Returns a sample of each account, its front in `fronts`.
 fn samples_of_fronts(alloc: Global, fronts: &[u32]) -> Result<Vec<Sample>, AllocError>
     ensures { IfOk result (λ samples. samples.items ≡ fronts_from 0 fronts.now) }
 {
@@ -280,7 +280,7 @@ fn samples_of_fronts(alloc: Global, fronts: &[u32]) -> Result<Vec<Sample>, Alloc
     Ok(samples)
 }
 
-/// Appends the comments and the samples of a metric, if it has samples.
+/// Appends the comments and the `samples` of the metric `name` to `text`, if it has samples.
 fn push_metric(
     text: &mut Vec<u8>,
     name: &str,
@@ -322,7 +322,8 @@ fn push_comment(text: &mut Vec<u8>, mark: &str, name: &str, said: &str) -> Resul
     push_word(text, "\n")
 }
 
-/// Appends the line of a sample, such as `payd_peer_met{peer="1"} 1`.
+/// Appends the line of a `sample` of the metric `name` to `text`, such as
+/// `payd_peer_met{peer="1"} 1`.
 fn push_sample(text: &mut Vec<u8>, name: &str, sample: Sample) -> Result<(), AllocError>
     ensures { OnOk result (text.new.items ≡ text.old.items ++ sample_line name.now sample) }
 {

@@ -136,7 +136,7 @@ fn places_of<'a>(limit: u64, members: u16) -> Result<u16, Stop<'a>>
     }
 }
 
-/// Answers the lines on standard input, after the words and the files are read, while the node
+/// Answers the lines on standard input, after the `words` and the files are read, while the node
 /// serves its peers. Then it prints the member's export, even if memory ran out for the shutdown
 /// check.
 pub(crate) fn serve_node<'a, R>(alloc: Global, rt: &R, words: NodeWords<'a>) -> Result<(), Stop<'a>>
@@ -418,7 +418,7 @@ where
     conclude(rt, &member, receipts)
 }
 
-/// Prints the export of a node's member, and returns whether its receipts were judged.
+/// Prints the export of `member`, a node's. Returns a fault if its `receipts` weren't judged.
 fn conclude<'a>(rt: &impl Print, member: &OwnMember, receipts: Receipts) -> Result<(), Stop<'a>>
     ensures judged { OnOk result (receipts ≡ Receipts.Consistent) }
     ensures stop { IfErr result (IsUnconcluded receipts) }
@@ -430,7 +430,7 @@ fn conclude<'a>(rt: &impl Print, member: &OwnMember, receipts: Receipts) -> Resu
     }
 }
 
-/// Prints the export of the member in a folder, after the files are read.
+/// Prints the export of the member in `folder`, after the files `genesis` and `keys` are read.
 pub(crate) fn export<'a, R>(
     alloc: Global,
     rt: &R,
@@ -451,8 +451,8 @@ where
     Ok(print_export(rt, &member)?)
 }
 
-/// Prints a member's export as a line. It allocates nothing, so that running out of memory at the
-/// end loses nothing.
+/// Prints the export of `member` as a line. The call allocates nothing, so that running out of
+/// memory at the end loses nothing.
 fn print_export(rt: &impl Print, member: &OwnMember) -> Result<(), StreamFault>
     ensures { IfErr result (λ fault. fault ≡ StreamFault.Write) }
 {

@@ -34,8 +34,8 @@ pub(crate) struct NamedLog<'a> {
     pub(crate) lock: &'a LogLock,
 }
 
-/// A log that follows a node's history. It reports once on standard error that it failed, or that
-/// it no longer has its name. Nothing is kept from then on.
+/// A log that follows a node's history. The log reports once on standard error that it failed, or
+/// that it no longer has its name. Nothing is kept from then on.
 #[derive(Drop)]
 pub(crate) struct SayingKept<'a, H, D: Device + Drop> {
     rt: &'a H,
@@ -49,7 +49,7 @@ pub(crate) struct SayingKept<'a, H, D: Device + Drop> {
 }
 
 impl<'a, H, D: Device + Drop> SayingKept<'a, H, D> {
-    /// Creates a log that reports failures, before any failure.
+    /// Creates a log that reports failures of `kept`, before any failure.
     pub(crate) fn new(
         rt: &'a H,
         alloc: Global,
@@ -146,9 +146,9 @@ loses its account";
 
 const STARVED: &str = "memory was refused for 5 seconds on end";
 
-/// A printer of a node's peer events on standard error, a line each. It also prints that the node's
-/// member has lost state, and that the node is out of memory. It has the node's metrics and times
-/// written.
+/// A printer of a node's peer events on standard error, a line each. The printer also prints that
+/// the node's member has lost state, and that the node is out of memory. It has the node's metrics
+/// and times written.
 #[derive(Drop)]
 pub(crate) struct Saying<'a, R> {
     pub(crate) rt: &'a R,
@@ -217,8 +217,9 @@ impl<R: Eprint> Observer<News> for Saying<'_, R> {
 }
 
 /// Prints which member of which group a node is, and the port that it listens on. The group is
-/// given by the first digits of the genesis's digest, as the member's log has it. If the genesis is
-/// a group's file, its fingerprint is given too. All that distinguishes two groups is in that.
+/// given by the first digits of the digest of `genesis`, as the member's log has it. If the genesis
+/// is a group's file, its fingerprint is given too. All that distinguishes two groups is in the
+/// fingerprint.
 pub(crate) fn say_node(
     alloc: Global,
     rt: &impl Eprint,
@@ -297,7 +298,7 @@ pub(crate) enum Found {
 }
 
 impl Found {
-    /// Returns what the log of `member` has, according to how it was found.
+    /// Returns what the log of `member` has, according to how it was `found`.
     pub(crate) fn of(member: &OwnMember, found: FoundAs) -> Found {
         match found {
             FoundAs::New => Found::Nothing,

@@ -31,7 +31,7 @@ impl NamedSocket {
     }
 }
 
-/// Returns the name of a node's socket: the given one, or the one in its folder.
+/// Returns the name of a node's socket: the given `socket`, or the one in its `folder`.
 pub(crate) fn socket_path<'a>(
     alloc: Global,
     folder: Option<&str>,
@@ -65,7 +65,7 @@ fn path_of_socket(
     }
 }
 
-/// Listens on a node's socket, if it has one.
+/// Listens on a node's socket at `path`, if the node has a socket.
 pub(crate) fn listen<'a, R: Files + Net>(
     alloc: Global,
     rt: &R,

@@ -41,8 +41,9 @@ pub(crate) fn judge_new<'a>(words: &NodeWords) -> Result<(), Stop<'a>>
     Ok(())
 }
 
-/// The lines of standard input. They can't be read any more when the node has to end. This is
-/// tested while no line comes. After their end, or after a failed read, a read may wait until then.
+/// The lines of standard input. The lines can't be read any more when the node has to end. This is
+/// tested while no line comes. After the lines' end, or after a failed read, a read may wait until
+/// the node has to end.
 #[derive(Drop)]
 pub(crate) struct Lines<'a, R, In> {
     rt: &'a R,

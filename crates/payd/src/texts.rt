@@ -13,7 +13,8 @@ use pay_group::{BookForm, Said, book_text};
 use pay_journal::{account_named, statement_text, statements_text};
 use std::alloc::{AllocError, Global};
 
-/// Returns the statement of the account that a word names, or without a word those of all.
+/// Returns the statement of `export` for the account that the word `account` names, or without a
+/// word those of all.
 // promise: statements of exports
 pub(crate) fn statement_said<'a>(
     alloc: Global,
@@ -54,7 +55,7 @@ pub(crate) fn form_of<'a>(as_genesis: bool, as_export: bool) -> Result<BookForm,
     Ok(BookForm::Lines)
 }
 
-/// Returns what is said about the exports in the files of these `names`.
+/// Returns what is said about the exports in the files of these `names`, in this `form`.
 // promise: group's book
 pub(crate) fn book_over<'a, F: NamedFiles>(
     alloc: Global,

@@ -39,7 +39,7 @@ pub(crate) struct TimesFile<'a, R> {
 }
 
 impl<'a, R> TimesFile<'a, R> {
-    /// Returns the file in a folder. Nothing is appended yet.
+    /// Returns the file of times in `folder`. Nothing is appended yet.
     pub(crate) fn new(
         rt: &'a R,
         alloc: Global,
@@ -117,7 +117,7 @@ fn settled_in(fronts: &[u32]) -> u64
     settled
 }
 
-/// Returns the clock's moment in UTC, in whole seconds.
+/// Returns the moment of `clock` in UTC, in whole seconds.
 fn moment_of(clock: &impl Clock) -> Result<DateTime, jiff::Error>
     ensures { IfOk result (λ moment. moment.time.subsec_nanosecond ≡ 0) }
 {
@@ -133,7 +133,7 @@ fn in_seconds(now: DateTime) -> Result<DateTime, jiff::Error>
     Ok(DateTime::from_parts(now.date(), time))
 }
 
-/// Returns the line of a moment.
+/// Returns the line of `moment` with these `fronts`.
 #[tactic(auto, unfolding(pay_desk::specs::Words::end_of_line))]
 fn times_line(alloc: Global, moment: DateTime, fronts: &[u32]) -> Result<Vec<u8>, AllocError>
     ensures { IfOk result (λ line. line.items ≡ times_words moment fronts.now) }

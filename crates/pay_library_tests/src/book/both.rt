@@ -1,4 +1,4 @@
-//! Both books, given the same values.
+//! Both books, given equal values.
 
 use crate::book::ledger::Ledger;
 use pay_book::PlainBook;
@@ -6,7 +6,7 @@ use pay_link::Genesis;
 use pay_pending::WaitingBook;
 use std::alloc::Global;
 
-/// Both over lists of their own, which are the same.
+/// Both books, over lists of their own that are equal.
 #[derive(Drop)]
 pub(crate) struct Both {
     plain: Ledger<PlainBook>,
@@ -14,7 +14,8 @@ pub(crate) struct Both {
 }
 
 impl Both {
-    /// Fresh books of a group with these opening balances, if there is such a group.
+    /// Creates fresh books of a group with these `opening` balances and at most `faults` faulty
+    /// members, if there is such a group.
     pub(crate) fn new(alloc: Global, faults: u64, opening: &[u64]) -> Option<Both> {
         let genesis = Genesis::new(alloc, opening.len() as u64, faults, opening).ok()?;
         Both::fresh(alloc, &genesis)
@@ -27,8 +28,8 @@ impl Both {
         })
     }
 
-    /// Puts a value on the same list of both, and says how many entries settled; nothing where they
-    /// answered differently or came to stand elsewhere.
+    /// Puts `value` on the list of `owner` in both books. Returns how many entries settled, or
+    /// `None` if the books answered differently or came to stand differently.
     pub(crate) fn added_alike(&mut self, alloc: Global, owner: u16, value: &[u8]) -> Option<u32> {
         let answer = self.plain.add(owner, value.to_vec(alloc).ok()?).ok()?;
         let other = self.waiting.add(owner, value.to_vec(alloc).ok()?).ok()?;

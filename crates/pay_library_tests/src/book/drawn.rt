@@ -20,8 +20,8 @@ fn draw_value(draws: &mut Draws, value: &mut Vec<u8>) -> Result<(), AllocError> 
     Ok(())
 }
 
-/// Puts a drawn value on the same list of both, and says how many entries settled; nothing where
-/// they answered differently or came to stand elsewhere.
+/// Puts a drawn value on one list of both books. Returns how many entries settled, or `None` if the
+/// books answered differently or came to stand differently.
 fn drawn_alike(alloc: Global, draws: &mut Draws, books: &mut Both) -> Option<u32> {
     let owner = u16::from(draws.below(4));
     let mut value = Vec::new(alloc);
@@ -37,7 +37,8 @@ fn all_added_alike(alloc: Global, draws: &mut Draws, books: &mut Both) -> Option
     Some(settled)
 }
 
-/// The same of ten values and two new books.
+/// Adds ten drawn values to two new books. Returns how many entries settled, or `None` if the books
+/// answered differently or came to stand differently.
 fn settled_alike(alloc: Global, draws: &mut Draws) -> Option<u32> {
     let opening = [draws.below(20), draws.below(20), draws.below(20), 0].map(u64::from);
     let mut books = Both::new(alloc, 1, &opening)?;

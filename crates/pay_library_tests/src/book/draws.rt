@@ -1,4 +1,4 @@
-//! Numbers that are drawn, the same in each run.
+//! Numbers that are drawn, equal in each run.
 
 ghost use Rattle.std.specs.Prelude.{◌<◌};
 
@@ -10,12 +10,12 @@ pub(crate) struct Draws {
 }
 
 impl Draws {
-    /// The numbers after this one.
+    /// Creates the draws after the number `seed`.
     pub(crate) fn new(seed: u64) -> Self {
         Draws { last: seed }
     }
 
-    /// The next number, below a bound.
+    /// Returns the next number, below `bound`.
     pub(crate) fn below(&mut self, bound: u8) -> u8
         requires { 0 < bound }
         ensures { result < bound }

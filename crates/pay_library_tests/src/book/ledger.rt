@@ -33,7 +33,7 @@ impl<B: Settle> Model for Ledger<B> {
 }
 
 impl<B: Settle + Drop> Ledger<B> {
-    /// A fresh book over empty lists.
+    /// Creates a fresh book of `genesis` over empty lists.
     pub(crate) fn new(alloc: Global, genesis: &Genesis) -> Result<Self, AllocError>
         ensures { IfOk result (λ ledger. ledger ≡ fresh genesis.now.opening) }
     {
@@ -45,7 +45,7 @@ impl<B: Settle + Drop> Ledger<B> {
         })
     }
 
-    /// Puts a value on an owner's list, and says how many entries settled; nothing where there is
+    /// Puts `value` on the list of `owner`. Returns how many entries settled, or `None` if there is
     /// no such owner or no room on its list.
     pub(crate) fn add(&mut self, owner: u16, value: Vec<u8>) -> Result<Option<u32>, AllocError> {
         if owner >= self.accounts || !self.lists.has_room(owner) {
@@ -58,7 +58,8 @@ impl<B: Settle + Drop> Ledger<B> {
         Ok(Some(self.book.settle(&self.lists, owner)))
     }
 
-    /// Whether each account stands as in another book, at the same front, balance and place.
+    /// Returns whether the two books have the same accounts, each with the same front, balance and
+    /// place.
     pub(crate) fn stands_as<C: Settle + Drop>(&self, other: &Ledger<C>) -> bool {
         for account in 0..self.accounts {
             if account >= other.accounts

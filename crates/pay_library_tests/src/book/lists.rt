@@ -16,7 +16,7 @@ pub(crate) struct Lists {
 }
 
 impl Lists {
-    /// Empty lists of so many owners.
+    /// Creates empty lists of `owners` owners.
     pub(crate) fn new(alloc: Global, owners: u16) -> Result<Self, AllocError>
         ensures owners { IfOk result (λ lists. vec_len lists.values ≡ owners) }
         ensures empty { IfOk result (λ lists. (owner : ℕ)
@@ -29,7 +29,7 @@ impl Lists {
         Ok(Lists { values })
     }
 
-    /// Whether there is such an owner, and its list has room for another value.
+    /// Returns whether there is an `owner` of this number and its list has room for another value.
     pub(crate) fn has_room(&self, owner: u16) -> bool
         ensures owner { IsTrue result → owner < vec_len self.now.values }
         ensures room { IsTrue result → length (owner_values self.now.values.items owner) < SEQS }
@@ -40,7 +40,7 @@ impl Lists {
         }
     }
 
-    /// Appends a value to an owner's list.
+    /// Appends a value to the list of `owner`.
     pub(crate) fn append(&mut self, owner: u16, value: Vec<u8>) -> Result<(), AllocError>
         requires owner { owner < vec_len self.old.values }
         requires room { length (owner_values self.old.values.items owner) < SEQS }

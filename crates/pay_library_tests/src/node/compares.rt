@@ -1,4 +1,4 @@
-//! A node that compares what its peers claim before it is asked for values.
+//! A node that compares what its peers claim before it accepts values.
 
 ghost use Rattle.std.specs.Prelude.{◌≡◌};
 
@@ -10,8 +10,8 @@ use std::alloc::Global;
 use std::marker::Brand;
 use std::sync::Wait;
 
-/// What came of an ask behind each claim of a peer, and whether the node's member has forgotten at
-/// the end.
+/// The answers to a value that was submitted after each claim of a peer. `forgets` says whether the
+/// node's member has lost state at the end.
 #[derive(Clone, Copy, Debug, PartialEq, Eq)]
 struct Came {
     first: Result<u32, HandInFault>,
@@ -19,14 +19,15 @@ struct Came {
     forgets: bool,
 }
 
-/// Two claims, each of a peer and how many frames it took.
+/// Two claims, each with its peer and how many frames the peer accepted.
 #[derive(Clone, Copy, Debug)]
 struct Claims {
     first: (u16, u64),
     second: (u16, u64),
 }
 
-// Under which number a node is asked for a value, or why not; nothing, where memory is refused.
+// Submits a value to `node`, and returns its number or why it got none. Returns `None` if memory
+// runs out.
 fn asks<S: Beginning, R: Wait>(
     rt: &R,
     alloc: Global,
@@ -40,7 +41,7 @@ fn asks<S: Beginning, R: Wait>(
     }
 }
 
-// What comes of these claims at a node of a member that sent nothing.
+// Returns what comes of `claims` at a node of `member`, which sent nothing.
 fn compares<S: Beginning, R: Wait>(
     rt: &R,
     alloc: Global,

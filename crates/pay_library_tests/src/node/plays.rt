@@ -10,7 +10,8 @@ use std::alloc::{AllocError, Global};
 use std::marker::Brand;
 use std::sync::Wait;
 
-// The place of the first call that isn't answered so from these seats, if there is one.
+// Returns the place of the first of `steps` that isn't answered so from these `seats`, if there is
+// one.
 fn unmet_in<S: Beginning, R: Wait>(
     rt: &R,
     alloc: Global,
@@ -26,7 +27,7 @@ fn unmet_in<S: Beginning, R: Wait>(
     None
 }
 
-// A group's member, tried once more where memory is refused.
+// Creates a member of `group`, a second time if memory runs out.
 fn fresh(alloc: Global, group: Group) -> Option<OwnMember> {
     match member_of(alloc, group) {
         None => member_of(alloc, group),
@@ -42,7 +43,9 @@ fn give_back(seats: &mut Vec<Seat>, two: TwoSeats) -> Result<(), AllocError> {
     Ok(())
 }
 
-// The same from two seats of a member's fresh node, or after the calls the node's closing.
+// Returns the place of the first step of `row` that isn't answered so from two seats of a fresh
+// node of `member`. If the steps are answered so and the shutdown check fails, it returns the count
+// of steps.
 fn unmet_by<S: Beginning, R: Wait>(
     rt: &R,
     alloc: Global,
@@ -65,7 +68,8 @@ fn unmet_by<S: Beginning, R: Wait>(
     unmet.or(fault.is_some().then_some(row.steps.len()))
 }
 
-// The same of a row's member.
+// Returns the place of the first step of `row` that isn't answered so at a node of the row's
+// member.
 fn unmet<R: Wait>(rt: &R, alloc: Global, row: &Row) -> Option<usize> {
     match fresh(alloc, row.group) {
         Some(member) => unmet_by::<Brand, R>(rt, alloc, member, row),
@@ -105,7 +109,7 @@ fn hand_in(
     Some(())
 }
 
-// The seats of a node with eight.
+// Returns the seats of a node of `member` with eight seats.
 fn eight_seats<S: Beginning>(alloc: Global, member: OwnMember) -> Option<Vec<Seat>>
     requires { member ≡ S.beginning }
 {
@@ -113,13 +117,14 @@ fn eight_seats<S: Beginning>(alloc: Global, member: OwnMember) -> Option<Vec<Sea
     Some(seats)
 }
 
-// Those of another node.
+// Returns the eight seats of another node.
 fn others(alloc: Global) -> Option<Vec<Seat>> {
     let member = member_of(alloc, FOUR)?;
     eight_seats::<Brand>(alloc, member)
 }
 
-// The seats that are handed in, of a node with these seats and of another one with eight.
+// Returns the seats that are `handed` in: of a node with the seats `own`, and of another one with
+// eight.
 fn seats_handed_in(
     alloc: Global,
     handed: &[(Whose, usize)],
@@ -131,7 +136,7 @@ fn seats_handed_in(
     Some(seats)
 }
 
-// A node of two seats, whose first one asked.
+// Creates a node of `member` with seats, and submits a value from the first seat.
 fn node_asked_once<S: Beginning, R: Wait>(
     rt: &R,
     alloc: Global,
@@ -147,7 +152,8 @@ fn node_asked_once<S: Beginning, R: Wait>(
     asks.then_some((node, seats))
 }
 
-// What closing that node answers with these seats, if there are such.
+// Returns what the shutdown check of that node answers with the seats that are `handed` in, if
+// there are such seats.
 fn fault_by<S: Beginning, R: Wait>(
     rt: &R,
     alloc: Global,
@@ -186,8 +192,8 @@ fn refused_close<S: Beginning>(alloc: Global, node: Node<S>) -> Option<(CloseFau
     node.close(alloc, others.as_slice()).err()
 }
 
-// Whether a node is asked once more from its first seat, and what closing it with its seats answers
-// then.
+// Submits a second value to `node` from the first of its `seats`. Returns whether it got a number,
+// and what the shutdown check with the seats answers then.
 fn asked_again<S: Beginning, R: Wait>(
     rt: &R,
     alloc: Global,
@@ -201,8 +207,8 @@ fn asked_again<S: Beginning, R: Wait>(
     (asks, fault_at_closing(alloc, node, seats))
 }
 
-// A node that asked is closed with the seats of another one, starts again, asks once more, and is
-// closed with its own seats: both faults, if both asks were answered.
+// Closes a node that got a value with the seats of another one, starts it again, submits a second
+// value, and closes it with its own seats. Returns both faults, if both values got numbers.
 fn faults_of_two<S: Beginning, R: Wait>(
     rt: &R,
     alloc: Global,

@@ -34,14 +34,14 @@ pub(crate) const SEND: &[u8] = &[
     95, 28, 6, 226, 59, 98,
 ];
 
-/// The same as number 1.
+/// The SEND above again, under number 1.
 const SEND_AGAIN: &[u8] = &[
     0, 54, 1, 1, 0, 0, 0, 1, 0, 0, 0, 0, 0, 0, 0, 1, 0, 0, 0, 0, 0, 0, 0, 0, 98, 5, 106, 172, 93,
     233, 152, 250, 78, 179, 187, 205, 144, 27, 68, 14, 54, 237, 66, 22, 235, 205, 113, 211, 234,
     179, 237, 209, 62, 244, 117, 208,
 ];
 
-/// What that is.
+/// The protocol violation that the second SEND is.
 const SECOND_SEND: Lie = Lie {
     kind: Kind::Send,
     owner: 0,
@@ -76,8 +76,8 @@ const LONE: &[Said] = &[
     },
 ];
 
-/// Calls from two seats: each has a receipt, but for a body that was fetched once before, and for
-/// bytes that don't open.
+/// Calls from two seats. Each call has a receipt, except for a body that was fetched before and for
+/// bytes that fail authentication.
 pub(crate) const ROWS: &[Row] = &[
     Row {
         name: "a member alone",
@@ -143,8 +143,8 @@ pub(crate) const ROWS: &[Row] = &[
     },
 ];
 
-/// Seats of a node with two, whose first asked once; another node has eight, from which nobody
-/// called.
+/// Seats of a node with two seats, after a value was submitted from the first. Another node has
+/// eight seats, from which nobody called.
 pub(crate) const HANDED: &[Handed] = &[
     Handed {
         name: "its own seats",

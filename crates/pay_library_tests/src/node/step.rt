@@ -5,7 +5,7 @@ use pay_frame::Kind;
 use pay_member::{AskFault, Lie, Outcome, PaymentState, QueryFault, Told, Took};
 use pay_node::CloseFault;
 
-/// What comes of a SEND of its owner.
+/// The outcome of a SEND of its owner.
 pub(crate) const ECHOED: Outcome = Outcome::Took(Took {
     echo: true,
     ready: false,
@@ -13,7 +13,7 @@ pub(crate) const ECHOED: Outcome = Outcome::Took(Took {
     settled: 0,
 });
 
-/// What comes of a second one.
+/// The outcome of a second SEND.
 pub(crate) const AGAIN: Outcome = Outcome::Took(Took {
     echo: false,
     ready: false,
@@ -50,23 +50,24 @@ pub(crate) enum Step {
     Statement(u16, &'static [Line], u64),
     Fronts(&'static [u32]),
     Fetch(usize, usize, &'static [Said]),
-    /// The body of a number: the one at that place of these, if there is one.
+    /// The body of a number: the one at that place of these bodies, if there is one.
     FetchOnce(usize, &'static [Said]),
-    /// Which lie a peer told last, which leaves no receipt.
+    /// The last protocol violation of a peer. The call leaves no receipt.
     Lied(u16, Option<Lie>),
-    /// So many receipts have the two seats, of which so many are of calls with an entry.
+    /// The count of receipts that the two seats have, and how many of them are of calls with an
+    /// entry.
     Receipts(usize, usize),
 }
 
-/// What is called from two seats of a node, which then closes.
+/// What is called from two seats of a node, which is then closed.
 pub(crate) struct Row {
     pub(crate) name: &'static str,
     pub(crate) group: Group,
     pub(crate) steps: &'static [Step],
 }
 
-/// The seats that are handed in, each by its node, which is this one or another with eight seats,
-/// and its stamp. An ask was made at this node from the first seat before.
+/// The seats that are handed in, each by its node and its stamp. The node is this one or another
+/// with eight seats. A value was submitted to this node from the first seat before.
 pub(crate) struct Handed {
     pub(crate) name: &'static str,
     pub(crate) seats: &'static [(Whose, usize)],

@@ -24,7 +24,7 @@ pub(crate) struct TwoSeats {
     pub(crate) fetches: Mutex<FetchSeat>,
 }
 
-/// The last two seats of these, if there are so many.
+/// Removes the last two of `seats` and returns them, if there are two.
 pub(crate) fn two_of(seats: &mut Vec<Seat>) -> Option<TwoSeats> {
     let calls = seats.pop()?;
     let fetches = fetch_seat(seats.pop()?)?;
@@ -34,7 +34,7 @@ pub(crate) fn two_of(seats: &mut Vec<Seat>) -> Option<TwoSeats> {
     })
 }
 
-/// A seat to fetch from, if nothing was called from it.
+/// Creates a seat for fetches from `seat`, if nothing was called from it.
 pub(crate) fn fetch_seat(seat: Seat) -> Option<FetchSeat> {
     if seat.receipts().is_empty() {
         Some(FetchSeat::new(seat))
@@ -43,7 +43,7 @@ pub(crate) fn fetch_seat(seat: Seat) -> Option<FetchSeat> {
     }
 }
 
-/// A group's member that took nothing, if there is such a member and memory isn't refused.
+/// Creates a member of `group` without events, if there is such a member and memory suffices.
 pub(crate) fn member_of(alloc: Global, group: Group) -> Option<OwnMember> {
     let members = group.opening.len() as u64;
     let genesis = Genesis::new(alloc, members, group.faults, group.opening).ok()?;
@@ -54,8 +54,8 @@ pub(crate) fn member_of(alloc: Global, group: Group) -> Option<OwnMember> {
     Member::new(alloc, genesis, keys).ok()
 }
 
-/// The node of a member, and its seats, if there may be so many. Where memory is refused, the
-/// member comes back, and it is tried once more.
+/// Creates the node of `member` and its `seats` seats, if a node may have that many. If memory runs
+/// out, the node is made a second time from the returned member.
 pub(crate) fn node_of<S: Beginning>(
     alloc: Global,
     member: OwnMember,
@@ -72,8 +72,8 @@ pub(crate) fn node_of<S: Beginning>(
     }
 }
 
-/// What closing a node answers with these seats, once more where memory is refused; nothing, where
-/// they agree.
+/// Closes `node` with `seats`, and returns the fault of the shutdown check, if there is one. If
+/// memory runs out, the check is made once more.
 pub(crate) fn fault_at_closing<S: Beginning>(
     alloc: Global,
     node: Node<S>,
@@ -84,7 +84,8 @@ pub(crate) fn fault_at_closing<S: Beginning>(
     Some(fault)
 }
 
-// A node that didn't close, with why; it is closed once more where memory was refused.
+// Closes `node` once more, if `fault` is a lack of memory. Returns the fault and the node, if it
+// didn't close.
 fn refused_at_last<S: Beginning>(
     alloc: Global,
     fault: CloseFault,
@@ -98,8 +99,8 @@ fn refused_at_last<S: Beginning>(
     }
 }
 
-/// Takes a step, once more where memory is refused, and says whether the answer is the one
-/// expected.
+/// Takes `step`, a second time if memory runs out, and returns whether the answer is the expected
+/// one.
 pub(crate) fn meets<S: Beginning, R: Wait>(
     rt: &R,
     alloc: Global,
@@ -113,7 +114,7 @@ pub(crate) fn meets<S: Beginning, R: Wait>(
     }
 }
 
-// Whether the answer to a step is the one expected; nothing, where memory is refused.
+// Returns whether the answer to `step` is the expected one, or `None` if memory runs out.
 fn is_met<S: Beginning, R: Wait>(
     rt: &R,
     alloc: Global,
@@ -140,7 +141,8 @@ fn is_met<S: Beginning, R: Wait>(
     }
 }
 
-// The same of a call from a seat that nobody else has.
+// Returns whether the answer to `step`, a call from `seat`, is the expected one, or `None` if
+// memory runs out. Nobody else has the seat.
 fn is_met_from<S: Beginning, R: Wait>(
     rt: &R,
     alloc: Global,
@@ -174,8 +176,8 @@ fn is_met_from<S: Beginning, R: Wait>(
     }
 }
 
-/// Whether this came of a frame, and whether it is answered with a WANT; nothing, where memory is
-/// refused.
+/// Returns whether `node` answers the frame `bytes` with `outcome`, and with a WANT if `wants` is
+/// set. Returns `None` if memory runs out.
 pub(crate) fn brings<S: Beginning, R: Wait>(
     rt: &R,
     alloc: Global,
@@ -191,7 +193,8 @@ pub(crate) fn brings<S: Beginning, R: Wait>(
     Some(brought.outcome == outcome && brought.want.is_some() == wants)
 }
 
-/// Whether a value is answered so; nothing, where memory is refused.
+/// Returns whether `node` answers the submitted `value` with `answer`, or `None` if memory runs
+/// out.
 pub(crate) fn asks<S: Beginning, R: Wait>(
     rt: &R,
     alloc: Global,
@@ -206,7 +209,8 @@ pub(crate) fn asks<S: Beginning, R: Wait>(
     (!lacks).then_some(found == answer.map_err(|fault| HandInFault::Ask(fault)))
 }
 
-// Whether this is known of a peer's lies, also without the lock.
+// Returns whether `lie` is what is known of the protocol violations of `peer`, even without the
+// lock.
 fn has_lied<S: Beginning, R: Wait>(rt: &R, node: &Node<S>, peer: u16, lie: Option<Lie>) -> bool {
     node.keys().is_peer(peer)
         && node.lie(rt, peer) == lie

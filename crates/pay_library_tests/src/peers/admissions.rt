@@ -1,5 +1,5 @@
-//! Whose a connection is: told when its first WANT for a place opens, and at each for a place above
-//! those before it; and what becomes of the WANTs that come.
+//! The admission of a connection as a peer's: at its first authenticated WANT for a place, and at
+//! each WANT for a higher place. Also what becomes of the WANTs that come.
 
 ghost use Rattle.std.specs.Prelude.{◌≡◌};
 
@@ -15,8 +15,8 @@ use std::marker::Brand;
 use std::sync::atomic::{AtomicBool, AtomicU64, Ordering};
 use std::sync::{Mutex, Wait};
 
-/// Counts how often a connection asked for a place above those before it, and who did so last, and
-/// lets it go on or not.
+/// A counter of admissions, which notes the last admitted peer, and lets each connection continue
+/// or not.
 #[derive(Drop)]
 pub(crate) struct Admissions {
     goes_on: bool,
@@ -33,7 +33,7 @@ impl Admissions {
         }
     }
 
-    // How often, and who did last.
+    // Returns how often a peer was admitted, and which peer was admitted last.
     fn counts(&self) -> (u64, u64) {
         (
             self.count.load(Ordering::SeqCst),
@@ -59,9 +59,8 @@ struct Row {
     came: Came,
 }
 
-/// How often a connection asked for a place above those before it, and who did so last; how many
-/// bytes were written in how many calls; and how many receipts are left in the seats of members 0
-/// and 2.
+/// How often a connection was admitted, and as which peer's it was last. How many bytes were
+/// written, in how many calls. How many receipts are left in the seats of members 0 and 2.
 #[derive(Clone, Copy, Debug, PartialEq, Eq)]
 struct Came {
     admitted: (u64, u64),
@@ -76,7 +75,7 @@ const REPLY: usize = 67;
 /// The length of a claim.
 const CLAIM_LEN: usize = 56;
 
-/// Nobody asked for it, and nothing was written.
+/// The result of a connection that was never admitted, and on which nothing was written.
 const NOTHING: Came = Came {
     admitted: (0, u64::MAX),
     bytes: 0,
@@ -211,7 +210,7 @@ const ROWS: &[Row] = &[
     },
 ];
 
-// These frames, one after the other.
+// Returns these `frames`, one after the other.
 fn join_frames(alloc: Global, frames: &[&[u8]]) -> Option<Vec<u8>> {
     let mut bytes = Vec::new(alloc);
     for frame in frames {
@@ -220,7 +219,7 @@ fn join_frames(alloc: Global, frames: &[&[u8]]) -> Option<Vec<u8>> {
     Some(bytes)
 }
 
-// Whether a node is asked for two payments.
+// Submits two payments to `node`, and returns whether both got numbers.
 fn asks_twice<S: Beginning, R: Wait>(
     rt: &R,
     alloc: Global,
@@ -238,7 +237,7 @@ fn asks_twice<S: Beginning, R: Wait>(
     true
 }
 
-// The number of bytes that a node writes for those that come, and in how many calls.
+// Returns how many bytes `node` writes for `frames`, and in how many calls.
 fn write_frames<S: Beginning, R: Wait>(
     rt: &R,
     alloc: Global,
@@ -262,12 +261,12 @@ fn write_frames<S: Beginning, R: Wait>(
     ended.is_ok().then_some((writer.into_inner().len(), calls))
 }
 
-// How many receipts a peer's seat has.
+// Returns how many receipts a peer's `seat` has.
 fn receipts_in<R: Wait>(rt: &R, seat: &Mutex<FetchSeat>) -> usize {
     seat.lock(rt).receipts().len()
 }
 
-// What comes of a connection to a node.
+// Returns what comes of the connection of `row` to `node`.
 fn came_of<S: Beginning, R: Wait>(
     rt: &R,
     alloc: Global,
@@ -289,14 +288,15 @@ fn came_of<S: Beginning, R: Wait>(
     })
 }
 
-// The seats of members 2 and 0, of three.
+// Removes the last two of three `seats`, and returns them as those of members 2 and 0.
 fn writing_of(seats: &mut Vec<Seat>) -> Option<[(u16, Mutex<FetchSeat>); 2]> {
     let of_2 = fetch_seat(seats.pop()?)?;
     let of_0 = fetch_seat(seats.pop()?)?;
     Some([(2, Mutex::new(of_2)), (0, Mutex::new(of_0))])
 }
 
-// Whether a node is asked for two payments from its last seat, which is left out then.
+// Removes the last of `seats` and submits two payments to `node` from it. Returns whether both got
+// numbers.
 fn asks_from_last<S: Beginning, R: Wait>(
     rt: &R,
     alloc: Global,
@@ -309,7 +309,8 @@ fn asks_from_last<S: Beginning, R: Wait>(
     }
 }
 
-// The same of a node with three seats, from the last of which two payments were asked for.
+// Returns what comes of the connection of `row` to `node`, after two payments were submitted from
+// the last of its three `seats`.
 fn came_behind_asks<S: Beginning, R: Wait>(
     rt: &R,
     alloc: Global,
@@ -324,7 +325,8 @@ fn came_behind_asks<S: Beginning, R: Wait>(
     came_of(rt, alloc, node, &writing, row)
 }
 
-// The same of a member's fresh node.
+// Returns what comes of the connection of `row` to a fresh node of `member`, after two payments
+// were submitted.
 fn outcome_by<S: Beginning, R: Wait>(
     rt: &R,
     alloc: Global,

@@ -1,4 +1,4 @@
-//! A node that is fed from a peer's stream, of which no frame is asked for ahead.
+//! A node that is fed from a peer's stream with one frame in flight at a time.
 
 ghost use Rattle.std.specs.Prelude.{◌≡◌};
 
@@ -40,8 +40,8 @@ fn feeds<S: Beginning, R: Wait>(
     ended.is_ok()
 }
 
-// Whether a node that is fed a frame twice asks for the first, and then for the next one twice; and
-// how many receipts its first seat has then.
+// Feeds `node` a frame twice. Returns whether it requests the first frame, and then the next one
+// twice. It also returns how many receipts the first seat has then.
 fn feed_twice<S: Beginning, R: Wait>(
     rt: &R,
     alloc: Global,
@@ -57,7 +57,8 @@ fn feed_twice<S: Beginning, R: Wait>(
     (ends && asks, seat.receipts().len())
 }
 
-// The same of a member's node that closes with its seats.
+// Feeds a node of `member` a frame twice, and closes it with its seats. Returns what `feed_twice`
+// returns, if the shutdown check succeeds.
 fn fed_and_closed_by<S: Beginning, R: Wait>(
     rt: &R,
     alloc: Global,

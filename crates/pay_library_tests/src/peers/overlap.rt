@@ -1,5 +1,5 @@
-//! Two workers at one node: while one is held as its frame is opened, or then, the other one's
-//! frame is taken.
+//! Two workers at one node. While one is held as its frame is authenticated, or after that, the
+//! frame of the other one is accepted.
 
 ghost use Rattle.std.specs.Prelude.{◌≡◌};
 
@@ -29,8 +29,8 @@ const SENT: u8 = 1;
 
 const WANTED: u8 = 4;
 
-/// Two workers, of which one is held where its frame's tag is made or after that. They are of peers
-/// 0 and 2, or both of peer 0: the held frame is then a repeat of the other one's.
+/// Two workers. One of them is held as the tag of its frame is computed, or after that. They belong
+/// to peers 0 and 2, or both to peer 0: then the held frame repeats the other one's.
 #[derive(Clone, Copy, Debug)]
 struct Row {
     held: u16,
@@ -154,7 +154,7 @@ impl Dial<Reader<&'static [u8]>, Writer<Vec<u8>>> for Once {
     }
 }
 
-// The claim and the one frame of peer 0 or 2.
+// Returns the claim and the one frame of `peer`, which is 0 or 2.
 fn frames_of(peer: u16) -> &'static [u8] {
     if peer == 0 {
         CLAIM_AND_SEND
@@ -163,7 +163,8 @@ fn frames_of(peer: u16) -> &'static [u8] {
     }
 }
 
-// Whether each seat was told of one frame, which was taken unless it is a repeat.
+// Returns whether each of `seats` has the receipt of one frame, which was accepted unless it is a
+// repeat.
 fn are_told(row: Row, seats: &[Seat]) -> bool {
     for seat in seats {
         let is_taken = !row.repeats || seat.stamp() != row.held;
@@ -175,7 +176,7 @@ fn are_told(row: Row, seats: &[Seat]) -> bool {
     true
 }
 
-// The peer whose frames come from a seat.
+// Returns the peer that sends frames to `seat`.
 fn peer_of(row: Row, seat: &Seat) -> u16 {
     if seat.stamp() == 0 || row.repeats {
         0
@@ -184,7 +185,7 @@ fn peer_of(row: Row, seat: &Seat) -> u16 {
     }
 }
 
-// Each seat with its peer.
+// Returns each of `seats` with its peer.
 fn pairs_of(alloc: Global, row: Row, seats: Vec<Seat>) -> Option<Vec<(u16, PeerReader)>> {
     let mut pairs = Vec::new(alloc);
     for seat in seats {
@@ -204,7 +205,8 @@ fn seats_of(alloc: Global, pairs: Vec<(u16, PeerReader)>) -> Option<Vec<Seat>> {
     Some(seats)
 }
 
-// Runs the workers, of which one is held, and says whether that was let go in time.
+// Runs the workers while one of them is held, and returns whether the held worker was let go in
+// time.
 fn run<S: Beginning + Send + Sync, R: Threads + Wait + Clock + Sync>(
     rt: &R,
     alloc: Global,
@@ -245,7 +247,8 @@ fn run<S: Beginning + Send + Sync, R: Threads + Wait + Clock + Sync>(
     !gate.gave_up.load(Ordering::SeqCst) && told.counts() == (2, 0, 0, 0, 0, 0)
 }
 
-// The seats after two workers of which one was held, if that was let go in time.
+// Returns the `seats` after two workers ran while one of them was held, if the held worker was let
+// go in time.
 fn held_seats<S: Beginning + Send + Sync, R: Threads + Wait + Clock + Sync>(
     rt: &R,
     alloc: Global,
@@ -259,7 +262,8 @@ fn held_seats<S: Beginning + Send + Sync, R: Threads + Wait + Clock + Sync>(
     in_time.then_some(seats)
 }
 
-// Whether a node closes with these seats, and each was told what it has to be.
+// Returns whether `node` closes with these `seats`, and whether each has the receipt that it has to
+// have.
 fn is_closed<S: Beginning>(
     alloc: Global,
     node: Node<S>,
@@ -275,7 +279,7 @@ fn is_closed<S: Beginning>(
     }
 }
 
-// Whether the held worker was let go in time, and both frames were answered.
+// Returns whether the held worker was let go in time, and both frames were answered.
 fn overlaps_at<S, R>(rt: &R, alloc: Global, member: OwnMember, row: Row) -> Option<bool>
 where
     S: Beginning + Send + Sync,

@@ -27,8 +27,8 @@ pub(crate) const WANT_FROM_2: &[u8] = &[
     141, 100, 53, 32, 46,
 ];
 
-/// The frame of member 0 twice, and what member 1 asks of it where it is fed these: its frame 0,
-/// and twice its frame 1.
+/// The frame of member 0 twice, and what member 1 requests of member 0 if it is fed these: frame 0,
+/// and then frame 1 twice.
 pub(crate) const FED: &[u8] = &[
     0, 54, 1, 1, 0, 0, 0, 1, 0, 0, 0, 0, 0, 0, 0, 0, 0, 0, 0, 0, 0, 0, 0, 0, 95, 18, 216, 156, 232,
     199, 171, 234, 104, 63, 10, 5, 239, 51, 203, 236, 225, 46, 12, 222, 29, 67, 48, 187, 155, 99,
@@ -47,8 +47,8 @@ pub(crate) const WANTED: &[u8] = &[
     241, 147, 133, 7, 50, 146, 78, 59, 172, 217, 172, 10, 148, 150, 138, 132, 13, 179,
 ];
 
-/// The claim of member 0, on a challenge of member 1 with the nonce 0, to have taken nothing; and its
-/// SEND.
+/// The claim of member 0, on a challenge of member 1 with the nonce 0, to have accepted nothing;
+/// and its SEND.
 pub(crate) const CLAIM_AND_SEND: &[u8] = &[
     0, 54, 1, 4, 0, 0, 0, 1, 192, 0, 0, 0, 0, 0, 0, 0, 0, 0, 0, 0, 0, 0, 0, 0, 44, 139, 206, 8,
     186, 54, 37, 157, 97, 56, 50, 37, 170, 84, 193, 86, 70, 164, 231, 135, 51, 203, 178, 176, 69,
@@ -66,7 +66,8 @@ pub(crate) const CLAIM_AND_SEND_OF_2: &[u8] = &[
     112, 126, 41, 224, 207, 97, 218, 161, 179, 71, 229, 227, 115, 75,
 ];
 
-/// A challenge of member 0 to member 1 with the nonce 7, and the claim on it of one who took nothing.
+/// A challenge of member 0 to member 1 with the nonce 7, and the claim on it of a member that
+/// accepted nothing.
 pub(crate) const CHALLENGE: &[u8] = &[
     0, 54, 1, 4, 0, 0, 0, 1, 128, 0, 0, 0, 14, 0, 0, 0, 0, 0, 0, 0, 0, 0, 0, 0, 204, 198, 13, 170,
     83, 19, 79, 144, 171, 240, 24, 202, 172, 1, 218, 208, 53, 111, 4, 14, 41, 55, 52, 26, 106, 33,
@@ -79,7 +80,7 @@ pub(crate) const CLAIM: &[u8] = &[
     58, 87, 81, 184, 119, 241,
 ];
 
-/// A WANT of member 0 that asks for nothing.
+/// A WANT of member 0 that requests nothing.
 pub(crate) const NO_CHALLENGE: &[u8] = &[
     0, 54, 1, 4, 0, 0, 0, 1, 128, 0, 0, 0, 14, 0, 0, 1, 0, 0, 0, 0, 0, 0, 0, 0, 179, 117, 249, 215,
     146, 182, 112, 86, 34, 60, 188, 169, 151, 81, 197, 170, 52, 189, 165, 152, 47, 203, 214, 197,

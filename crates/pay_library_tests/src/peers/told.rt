@@ -1,9 +1,9 @@
-//! What workers tell of their peers.
+//! What workers report about their peers.
 
 use pay_peers::{Observer, PeerEvent};
 use std::sync::atomic::{AtomicU64, Ordering};
 
-/// Counts what workers tell of their peers.
+/// A counter of what workers report about their peers.
 #[derive(Drop)]
 pub(crate) struct Told {
     heard: AtomicU64,
@@ -26,8 +26,8 @@ impl Told {
         }
     }
 
-    /// How often a peer was heard, missed and given up, how often one lied, how often a frame of it
-    /// didn't open, and how often memory was refused.
+    /// Returns how often a peer was heard, missed and given up, how often it lied, how often a
+    /// frame of it failed authentication, and how often memory ran out.
     pub(crate) fn counts(&self) -> (u64, u64, u64, u64, u64, u64) {
         (
             self.heard.load(Ordering::SeqCst),
