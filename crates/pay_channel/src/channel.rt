@@ -1,6 +1,6 @@
 //! A member's side of the broadcast channel: its instances, its sent list, and each owner's list.
 
-ghost use Rattle.std.specs.Prelude.{◌≡◌, ◌<◌, ℕ, List, length, slice_get, true, ◌≢◌, ◌≤◌, ◌+◌};
+ghost use Rattle.std.specs.Prelude.{◌≡◌, ◌<◌, ℕ, List, length, slice_get, true, ◌≤◌, ◌+◌};
 ghost use Rattle.std.specs.Prelude.{◌++◌, Some, [], ◌∷◌, replicate, vec_len, vec_capacity, IfOk};
 ghost use Rattle.std.specs.Prelude.{IfSome, OnOk, OnErr};
 ghost use Rattle.std.specs.Option.{option_copied, option_map, option_to_list};
@@ -151,7 +151,10 @@ impl<I: Instance + Drop> Channel<I> {
     {
         match event {
             EventRef::Ask(value) => self.ask(alloc, value),
-            EventRef::From(process, body) => self.take(alloc, process, body),
+            EventRef::From(process, body) => match vote_in(process, body) {
+                Some(vote) => self.vote(alloc, body.owner(), body.seq(), vote, None),
+                None => Ok(Applied::NONE),
+            },
         }
     }
 
@@ -171,21 +174,6 @@ impl<I: Instance + Drop> Channel<I> {
         let applied = self.vote(alloc, own, seq, VoteRef::Send(value), Some(send))?;
         self.asks = seq + 1;
         Ok(applied)
-    }
-
-    // Applies a body that another member, `process`, sent.
-    fn take(&mut self, alloc: Global, process: u16, body: &Body) -> Result<Applied, AllocError>
-        requires event { IsEvent self.old.group (From process body.now) }
-        ensures takes { OnOk result (Takes self.old self.new (From process body.now)) }
-        ensures applied { IfOk result (IsApplied self.old self.new (From process body.now)) }
-        ensures grows { OnOk result
-            (GrowsOnly (channel_lists self.old) (channel_lists self.new) body.now.owner) }
-        ensures err { OnErr result (IsAsBefore self.old self.new) }
-    {
-        match vote_in(process, body) {
-            Some(vote) => self.vote(alloc, body.owner(), body.seq(), vote, None),
-            None => Ok(Applied::NONE),
-        }
     }
 
     // Applies a vote in a broadcast, with all that follows from it. Room is made first, then come

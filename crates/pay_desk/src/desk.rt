@@ -1,4 +1,4 @@
-ghost use Rattle.std.specs.Prelude.{◌≡◌, ◌≤◌, [], length, IfOk, IfSome, OnErr, None, Some};
+ghost use Rattle.std.specs.Prelude.{◌≡◌, ◌≤◌, [], length, IfOk, OnErr, None, Some};
 ghost use Rattle.std.specs.Prelude.{MatchResult};
 ghost use Rattle.std.specs.List.{list_all, list_any};
 ghost use Rattle.std.specs.Result.{result_err};
@@ -110,26 +110,9 @@ impl<T: Teller> Desk<T> {
         ensures err { OnErr result (self.new ≡ self.old) }
     {
         let value = order.payments.value(alloc)?;
-        match self.kept.find(alloc, order.id) {
-            Some(kept) => kept_text(alloc, kept, order.id, &value),
-            None => self.pay_anew(alloc, &order, value),
+        if let Some(kept) = self.kept.find(alloc, order.id) {
+            return kept_text(alloc, kept, order.id, &value);
         }
-    }
-
-    fn pay_anew(
-        &mut self,
-        alloc: Global,
-        order: &Order,
-        value: Option<Bytes>,
-    ) -> Result<Vec<u8>, AllocError>
-        requires fresh { kept_under order.now.id self.old.kept ≡ None }
-        requires value { value
-            ≡ if_named order.now.payments (value_of_payments order.now.payments) }
-        requires short { IfSome value (λ v. length v ≤ GREATEST_VALUE) }
-        ensures text { IfOk result (λ text.
-            AnswersPay T.says None order.now self.old text.items self.new) }
-        ensures err { OnErr result (self.new ≡ self.old) }
-    {
         match value_or_fault(self.accounts, self.own, &order.payments, value) {
             Ok(value) => self.ask(alloc, order.id, value),
             Err(fault) => refused_text(alloc, fault),

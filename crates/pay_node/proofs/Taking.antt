@@ -17,21 +17,17 @@ use Rattle.pay_member.specs.declared.event.Took.{Took}
 use Rattle.pay_member.specs.declared.bringing.Outcome.TheVariants as outcome
 use Rattle.pay_member.specs.Answer.{answer_of_take}
 use Rattle.pay_member.specs.Bringing.{answered_at_once, with_want}
-use Rattle.pay_node.specs.Nodes.{NodeFields, IsAnswered, IsAnsweredAs, IsBrought, IsReceived, IsTaken, next_of, outcome_of_take}
+use Rattle.pay_node.specs.Nodes.{NodeFields, IsAnswered, IsAnsweredAs, IsBrought, IsReceived, next_of, outcome_of_take}
 use Rattle.pay_node.specs.Seats.{SeatFields}
 
-pub taken_so :
-    (n : NodeFields) (before after : SeatFields) (opened : OpenedFields) (number : ℕ) (answer : Result Took TakeFault) (r : Received)
-    → r.outcome ≡ outcome_of_take answer → answer ≢ Err Memory → number ≡ opened.frame.number → r.next ≡ next_of number answer
+pub taken_message :
+    (n : NodeFields) (before after : SeatFields) (i : Result Incoming LinkFault) (opened : OpenedFields) (number : ℕ) (answer : Result Took TakeFault) (r : Received)
+    → Ok (Message opened) ≡ i → r.outcome ≡ outcome_of_take answer → answer ≢ Err Memory → number ≡ opened.frame.number → r.next ≡ next_of number answer
     → (answer ≢ Err Memory → IsAnswered n before after (Taken (checked_fields opened)) (answer_of_take answer))
-    → IsTaken n before after opened r
-taken_so n before after opened number answer r outcome memory is next answered =
-    record { answer = answer; memory = memory; answered = answered memory; outcome = outcome; next = next ∙ ap (λ m. next_of m answer) is }
-
-pub is_message :
-    (n : NodeFields) (before after : SeatFields) (i : Result Incoming LinkFault) (opened : OpenedFields) (r : Received)
-    → Ok (Message opened) ≡ i → IsTaken n before after opened r → IsAnsweredAs n before after i r
-is_message n before after i opened r is took = subst (λ x. IsAnsweredAs n before after x r) is took
+    → IsAnsweredAs n before after i r
+taken_message n before after i opened number answer r opens outcome memory is next answered =
+    subst (λ x. IsAnsweredAs n before after x r) opens
+    (record { answer = answer; memory = memory; answered = answered memory; outcome = outcome; next = next ∙ ap (λ m. next_of m answer) is })
 
 pub is_want :
     (n : NodeFields) (seat : SeatFields) (i : Result Incoming LinkFault) (from number : ℕ) (r : Received)

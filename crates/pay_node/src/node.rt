@@ -1,7 +1,7 @@
 //! A running node: a member under a lock, called from seats.
 
-ghost use Rattle.std.specs.Prelude.{OnOk, ◌≡◌, ◌≢◌, ◌+◌, ◌<◌, ◌≤◌, ◌^◌, Ok, Err, IfOk, IfErr};
-ghost use Rattle.std.specs.Prelude.{IfSome, IsTrue, OnErr, Result, false, is_some, length, true, ⊤};
+ghost use Rattle.std.specs.Prelude.{◌≡◌, ◌≢◌, ◌+◌, ◌<◌, ◌≤◌, ◌^◌, Ok, Err, IfOk, IfErr};
+ghost use Rattle.std.specs.Prelude.{IfSome, OnErr, Result, false, is_some, length, true, ⊤};
 ghost use Rattle.std.specs.declared.alloc.AllocError.{AllocError};
 ghost use Rattle.std.specs.Result.{result_ok};
 ghost use Rattle.pay_frame.specs.Frame.{FrameFields};
@@ -9,10 +9,10 @@ ghost use Rattle.pay_frame.specs.Lent.{fields_of};
 ghost use Rattle.pay_frame.specs.OneFrame.{IsOneFrame};
 ghost use Rattle.pay_frame.specs.declared.limits.TheConstants.{MOST_MEMBERS};
 ghost use Rattle.pay_link.specs.Keys.{IsPeer};
-ghost use Rattle.pay_member.specs.Answer.{answer_of_take, answer_of_query};
+ghost use Rattle.pay_member.specs.Answer.{answer_of_query};
 ghost use Rattle.pay_member.specs.Legal.{Legal};
 ghost use Rattle.pay_member.specs.Member.{MemberFields};
-ghost use Rattle.pay_member.specs.declared.event.Event.TheVariants.{Query, Taken};
+ghost use Rattle.pay_member.specs.declared.event.Event.TheVariants.{Query};
 ghost use Rattle.pay_member.specs.declared.fault.AskFault.TheVariants.{Memory};
 ghost use Rattle.pay_node.specs.Closing.{AllReconciled, IsCloseFault};
 ghost use Rattle.pay_node.specs.Comparing.{HasAsked, HasStanding, IsAnsweredOfOwn};
@@ -22,7 +22,7 @@ ghost use Rattle.pay_node.specs.Keeping.{HasFetched};
 ghost use Rattle.pay_node.specs.Nodes.{AreFresh, FindsLie, HasEntries, HasNext, IsAccused};
 ghost use Rattle.pay_node.specs.Nodes.{IsAnswered};
 ghost use Rattle.pay_node.specs.Nodes.{IsBrought};
-ghost use Rattle.pay_node.specs.Nodes.{IsMessage, IsOwn, node_as, IsReceived, IsShown, IsTaken};
+ghost use Rattle.pay_node.specs.Nodes.{IsMessage, IsOwn, node_as, IsReceived, IsShown};
 ghost use Rattle.pay_node.specs.Nodes.{base_of, next_of, node_with, outcome_of_take};
 ghost use Rattle.pay_node.specs.Sending.{HasSent};
 ghost use Rattle.pay_member.specs.declared.reading.Reading.TheVariants as reading;
@@ -33,9 +33,9 @@ use crate::locked_member::{Beginning, LockedMember, OwnMember};
 use crate::seat::{FetchSeat, Seat};
 use pay_book::Statement;
 use pay_channel::laws::one_event_more;
-use pay_frame::{Body, Bytes, FrameRef, Kind, SharedBody, read_one};
+use pay_frame::{Body, Bytes, FrameRef, SharedBody, read_one};
 use pay_hmac::Tagger;
-use pay_link::{Checked, Keys, LinkFault, Opened};
+use pay_link::{Keys, LinkFault};
 use pay_member::laws::events_in_order;
 use pay_member::question::{AllFronts, LastLieOf, OwnForgetting, SentFrom, StateOf, StatementOf};
 use pay_member::{
@@ -280,7 +280,7 @@ impl<S: Beginning> Node<S> {
     // would cost a sixth of a frame.
     /// Does what `bring` does, for a `frame` that was read already, and without the WANT: the
     /// answer has the number that the WANT would request.
-    #[tactic(auto, using(crate::proofs::Taking::is_message, crate::proofs::Taking::is_want, crate::proofs::Taking::is_fault))]
+    #[tactic(auto, using(crate::proofs::Taking::taken_message, crate::proofs::Taking::is_want, crate::proofs::Taking::is_fault))]
     // promise: node's bytes
     pub fn bring_frame<R: Wait, T: Tagger, G: Gate>(
         &self,
@@ -298,13 +298,27 @@ impl<S: Beginning> Node<S> {
         ensures err { OnErr result (seat.new ≡ seat.old) }
         ensures memory { OnErr result (IsMessage self.now.keys (fields_of frame.entry)) }
     {
-        match open_frame(tagger, self.keys(), frame) {
-            Ok(Incoming::Message(opened)) => self.take(rt, alloc, seat, gate, &opened),
+        let opened = match open_frame(tagger, self.keys(), frame) {
+            Ok(Incoming::Message(opened)) => opened,
             Ok(Incoming::Want { from, number }) => {
-                Ok(Received::at_once(Outcome::Wanted { from, number }))
+                return Ok(Received::at_once(Outcome::Wanted { from, number }));
             }
-            Err(fault) => Ok(Received::at_once(Outcome::Link(fault))),
+            Err(fault) => return Ok(Received::at_once(Outcome::Link(fault))),
+        };
+        let checked = opened.own(alloc)?;
+        let copy = checked.copy()?;
+        seat.make_room(alloc)?;
+        gate.pass(seat.stamp());
+        let mut locked = self.member.lock(rt);
+        let answer = locked.take(alloc, seat, checked, copy);
+        self.count_sent(&locked);
+        self.note_liar(&locked, opened.frame().from());
+        drop(locked);
+        gate.answered(seat.stamp());
+        if has_sent(&answer) {
+            self.changed.notify_all();
         }
+        received_of(opened.frame().number(), answer)
     }
 
     /// Has the member broadcast `value`, a value of its own. The member must have kept its state.
@@ -686,39 +700,6 @@ impl<S: Beginning> Node<S> {
         ensures back { IfErr result (λ back. back.1.node ≡ self) }
     {
         self.stop().close(alloc, seats)
-    }
-
-    // Hands an authenticated frame to the member, between the gate's two calls, and returns which
-    // number is next from its sender.
-    #[tactic(auto, using(crate::proofs::Taking::taken_so))]
-    fn take<R: Wait, G: Gate>(
-        &self,
-        rt: &R,
-        alloc: Global,
-        seat: &mut Seat,
-        gate: &G,
-        opened: &Opened<'_>,
-    ) -> Result<Received, AllocError>
-        requires kind { opened.now.frame.body.kind ≢ Kind.Want }
-        requires peer { IsPeer self.now.keys opened.now.frame.from }
-        ensures taken { IfOk result (λ received.
-            IsTaken self.now seat.old seat.new opened.now received) }
-        ensures err { OnErr result (seat.new ≡ seat.old) }
-    {
-        let checked = opened.own(alloc)?;
-        let copy = checked.copy()?;
-        seat.make_room(alloc)?;
-        gate.pass(seat.stamp());
-        let mut locked = self.member.lock(rt);
-        let answer = locked.take(alloc, seat, checked, copy);
-        self.count_sent(&locked);
-        self.note_liar(&locked, opened.frame().from());
-        drop(locked);
-        gate.answered(seat.stamp());
-        if has_sent(&answer) {
-            self.changed.notify_all();
-        }
-        received_of(opened.frame().number(), answer)
     }
 }
 

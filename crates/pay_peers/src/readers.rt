@@ -335,40 +335,8 @@ where
         }
     }
 
-    // Passes what comes on a connection to the node, if the node is free.
-    fn read<In: Input, Out: Output>(
-        &self,
-        peer: u16,
-        asking: &mut PeerReader,
-        reader: &mut In,
-        writer: &mut Out,
-    )
-        requires { IsPeer self.now.context.now.node.now.keys peer }
-        ensures { SeatGrows peer asking.old.seat asking.new.seat }
-    {
-        // for the proof, a law: the call does nothing
-        judgement_opens();
-        let NodeContext { rt, node, .. } = *self.context;
-        if node.standing(rt) != Standing::Free {
-            return;
-        }
-        if !self.begin(peer, asking) {
-            return;
-        }
-        let ended = read_ahead(
-            self.context,
-            self.gate,
-            peer,
-            self.ahead,
-            asking,
-            reader,
-            writer,
-        );
-        self.tell_refusal(peer, ended);
-    }
-
-    // Feeds the node from one connection. The peer's claim is requested first, if `challenge` has a
-    // nonce for that.
+    // Feeds the node from one connection, if the node is free. The peer's claim is requested first,
+    // if `challenge` has a nonce for that.
     fn feed<In, Out>(
         &self,
         peer: u16,
@@ -385,7 +353,10 @@ where
         ensures gain { (claimed : Bool) × (result
             ≡ gain_by claimed (drop (length asking.old.seat.receipts) asking.new.seat.receipts)) }
     {
-        if !self.context.node.keys().is_peer(peer) {
+        // for the proof, a law: the call does nothing
+        judgement_opens();
+        let NodeContext { rt, node, .. } = *self.context;
+        if !node.keys().is_peer(peer) {
             return Gain::Nothing;
         }
         let mut reader = reader;
@@ -398,7 +369,18 @@ where
             return Gain::Nothing;
         }
         let before = asking.seat.receipts().len();
-        self.read(peer, asking, &mut reader, &mut writer);
+        if node.standing(rt) == Standing::Free && self.begin(peer, asking) {
+            let ended = read_ahead(
+                self.context,
+                self.gate,
+                peer,
+                self.ahead,
+                asking,
+                &mut reader,
+                &mut writer,
+            );
+            self.tell_refusal(peer, ended);
+        }
         let gain = Gain::of(claimed, before, asking.seat.receipts());
         if !claimed && gain == Gain::Taken {
             self.observer.observe(peer, PeerEvent::Heard);

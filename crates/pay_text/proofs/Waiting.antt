@@ -213,7 +213,7 @@ module _ {A : Type 0} (says : A → Option (List ℕ) → List ℕ → Bool → 
     ends = inl refl;
   }
 
-  pub goes_written :
+  goes_written :
       (lines left : List (Option (List ℕ))) (old new : A) (before w after : Option (List ℕ)) (waits : List ℕ) (answered result : Result Bool StreamFault)
       → PutsSome (answering says gives_up) lines left (waiting old before []) (waiting new w waits) answered → HasWritten answered w after waits result → AnswersSome (answering says gives_up) lines left (said_by old before) (said_by new after) result
   goes_written lines left old new before w after waits answered (Ok on) p (same, out) =
@@ -226,3 +226,10 @@ module _ {A : Type 0} (says : A → Option (List ℕ) → List ℕ → Bool → 
       gave_up lines left old new before w after waits (subst (PutsSome (answering says gives_up) lines left (waiting old before []) (waiting new w waits)) same p) wrote
   goes_written lines left old new before w after waits answered (Err fault) p (inr (inr (inr (on, same, failed, wrote)))) =
       not_written lines left old new before w after waits on (subst (PutsSome (answering says gives_up) lines left (waiting old before []) (waiting new w waits)) same p) wrote
+
+  pub goes_from_nothing :
+      (lines left : List (Option (List ℕ))) (old new : A) (before w after : Option (List ℕ)) (waited waits : List ℕ) (answered result : Result Bool StreamFault)
+      → waited ≡ [] → PutsSome (answering says gives_up) lines left (waiting old before waited) (waiting new w waits) answered → HasWritten answered w after waits result
+      → AnswersSome (answering says gives_up) lines left (said_by old before) (said_by new after) result
+  goes_from_nothing lines left old new before w after waited waits answered result none p out =
+      goes_written lines left old new before w after waits answered result (subst (λ (xs : List ℕ). PutsSome (answering says gives_up) lines left (waiting old before xs) (waiting new w waits) answered) none p) out

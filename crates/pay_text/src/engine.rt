@@ -8,7 +8,7 @@ ghost use Rattle.pay_frame.specs.Counts.{KeepsCounts, counts_of, no_other_faults
 ghost use Rattle.pay_frame.specs.Device.{WroteBeginning, next_count};
 ghost use Rattle.pay_text.specs.Answers.{text_bytes};
 ghost use Rattle.pay_text.specs.Cutting.{lines_after};
-ghost use Rattle.pay_text.specs.Engine.{AnswersSome, Dialogue, IsGoing, Reads, WritesByEnd};
+ghost use Rattle.pay_text.specs.Engine.{Dialogue, IsGoing, Reads, WritesByEnd};
 ghost use Rattle.pay_text.specs.Outbox.{Puts, PutsSome, HasWritten};
 
 use crate::cutter::LineCutter;
@@ -231,72 +231,16 @@ fn read_once<A: Answerer, R: Input, W: Output>(
         if cutter.is_empty() {
             return Ok(Some(true));
         }
-        let may_follow = answer_last(alloc, answerer, cutter, outbox, writer)?;
+        let answered = answer_line(alloc, answerer, cutter, outbox, writer);
+        let may_follow = finish_writing(outbox, writer, answered)?;
         return Ok(Some(may_follow));
     }
-    if take_piece(alloc, answerer, cutter, &buffer[..count], outbox, writer)? {
+    let answered = answer_lines(alloc, answerer, cutter, &buffer[..count], outbox, writer);
+    if finish_writing(outbox, writer, answered)? {
         Ok(None)
     } else {
         Ok(Some(false))
     }
-}
-
-/// Answers the lines that end in `piece`, and writes the answers. Returns whether a line may
-/// follow.
-fn take_piece<A: Answerer, W: Output>(
-    alloc: Global,
-    answerer: &mut A,
-    cutter: &mut LineCutter,
-    piece: &[u8],
-    outbox: &mut Outbox,
-    writer: &mut W,
-) -> Result<bool, StreamFault>
-    requires { outbox.old ≡ [] }
-    ensures goes { (more : List ℕ) → AnswersSome (record { says = A.says; gives_up = A.gives_up })
-        (lines_after cutter.old.bound cutter.old.line (piece.now ++ more))
-        (lines_after cutter.old.bound cutter.new.line more)
-        (record { answerer = answerer.old; written = W.contents writer.old })
-        (record { answerer = answerer.new; written = W.contents writer.new }) result }
-    ensures cutter { OnOk result (cutter.new.bound ≡ cutter.old.bound) }
-    ensures empty { OnOk result (outbox.new ≡ []) }
-    ensures read { ¬ (IsErrOf result StreamFault.Read) }
-    ensures bound { ¬ (IsErrOf result StreamFault.Bound) }
-    ensures write { IsErrOf result StreamFault.Write
-        → W.failure_count writer.new ≡ next_count (W.failure_count writer.old) }
-    ensures memory { IsErrOf result StreamFault.Memory
-        → W.failure_count writer.new ≡ W.failure_count writer.old }
-    ensures all_written { OnOk result (W.failure_count writer.new ≡ W.failure_count writer.old) }
-{
-    let answered = answer_lines(alloc, answerer, cutter, piece, outbox, writer);
-    finish_writing(outbox, writer, answered)
-}
-
-/// Answers the last line, at the input's end, and writes the answer. Returns whether a line may
-/// follow.
-fn answer_last<A: Answerer, W: Output>(
-    alloc: Global,
-    answerer: &mut A,
-    cutter: &mut LineCutter,
-    outbox: &mut Outbox,
-    writer: &mut W,
-) -> Result<bool, StreamFault>
-    requires { outbox.old ≡ [] }
-    ensures goes { AnswersSome (record { says = A.says; gives_up = A.gives_up })
-        (cutter.old.line ∷ []) []
-        (record { answerer = answerer.old; written = W.contents writer.old })
-        (record { answerer = answerer.new; written = W.contents writer.new }) result }
-    ensures cutter { OnOk result (cutter.new.bound ≡ cutter.old.bound) }
-    ensures empty { OnOk result (outbox.new ≡ []) }
-    ensures read { ¬ (IsErrOf result StreamFault.Read) }
-    ensures bound { ¬ (IsErrOf result StreamFault.Bound) }
-    ensures write { IsErrOf result StreamFault.Write
-        → W.failure_count writer.new ≡ next_count (W.failure_count writer.old) }
-    ensures memory { IsErrOf result StreamFault.Memory
-        → W.failure_count writer.new ≡ W.failure_count writer.old }
-    ensures all_written { OnOk result (W.failure_count writer.new ≡ W.failure_count writer.old) }
-{
-    let answered = answer_line(alloc, answerer, cutter, outbox, writer);
-    finish_writing(outbox, writer, answered)
 }
 
 /// Writes the answers that wait, except after a failed write. Then returns `answered`, or the fault
