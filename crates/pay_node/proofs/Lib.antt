@@ -5,6 +5,7 @@ pub mod Judged
 pub mod Kept
 pub mod Latest
 pub mod Marked
+pub mod Packing
 pub mod Replayed
 pub mod Rights
 pub mod Verdicts

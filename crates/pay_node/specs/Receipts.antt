@@ -1,11 +1,13 @@
 -- Receipts of a node's calls, and when a history is consistent with a receipt.
-use Rattle.std.specs.Prelude.{◌≡◌, ℕ, ◌+◌, ◌≤◌, Bool, true, false, if◌then◌else◌, List, [], ◌∷◌}
+use Rattle.std.specs.Prelude.{◌≡◌, ℕ, ◌+◌, ◌*◌, ◌/◌, ◌%◌, ◌==◌, ◌≤◌, Bool, true, false}
+use Rattle.std.specs.Prelude.{if◌then◌else◌, List, [], ◌∷◌}
 use Rattle.std.specs.Prelude.{take, length, slice_get, Option, Some, None, Result, Ok, Err}
 use Rattle.pay_frame.specs.Frame.{BodyFields}
 use Rattle.pay_member.specs.declared.event.Event.{Event}
 use Rattle.pay_member.specs.declared.event.Event.TheVariants.{Taken}
 use Rattle.pay_member.specs.declared.event.Reply.{Reply}
-use Rattle.pay_member.specs.declared.event.Reply.TheVariants.{Took}
+use Rattle.pay_member.specs.declared.event.Reply.TheVariants as reply
+use Rattle.pay_member.specs.declared.event.Took.{Took}
 use Rattle.pay_member.specs.declared.fault.MemberFault.{MemberFault}
 use Rattle.pay_member.specs.declared.fault.MemberFault.TheVariants.{Memory, Spent, TooLong, Repeat}
 use Rattle.pay_member.specs.declared.fault.MemberFault.TheVariants.{Gap, WrongKey, NoAccount}
@@ -17,8 +19,9 @@ use Rattle.pay_member.specs.Refusal.{refusal}
 use Rattle.pay_member.specs.Member.{MemberFields, back_at}
 use Rattle.pay_node.specs.declared.receipt.Call.{Call}
 use Rattle.pay_node.specs.declared.receipt.Call.TheVariants.{Handed, Read}
-use Rattle.pay_node.specs.declared.receipt.KeptCall.{KeptCall}
-use Rattle.pay_node.specs.declared.receipt.KeptCall.TheVariants as kept
+use Rattle.pay_node.specs.declared.receipt.ReceiptForm.{ReceiptForm}
+use Rattle.pay_node.specs.declared.receipt.ReceiptForm.TheVariants as form
+use Rattle.pay_node.specs.declared.receipt.TheConstants.{LOW}
 
 -- An answered call of a seat: how many entries the history had before it, and the call with its
 -- answer. The count is the place of the call's own entry, if it has one.
@@ -26,11 +29,34 @@ pub record ReceiptFields : Type 0 where
   pub seen : ℕ
   pub call : Call
 
--- the call that is kept in this form
-abbrev pub call_in : KeptCall → Call
-call_in (kept.Taken frame took) = Handed (Taken frame) (Ok (Took took))
-call_in (kept.Sent number body) = Read (reading.Sent number 1 (body ∷ []))
-call_in (kept.Other call) = call.value
+-- what followed from a frame, packed into a number: 1 stands for an ECHO, 2 for a READY, 4 for a
+-- delivery
+abbrev pub flags_of : Took → ℕ
+flags_of took =
+    (if took.echo then 1 else 0) + 2 * (if took.ready then 1 else 0)
+    + 4 * (if took.deliver then 1 else 0)
+
+-- what such a number says followed from a frame that settled this count of entries
+abbrev pub took_in : ℕ → ℕ → Took
+took_in flags settled = record {
+  echo = flags % 2 == 1;
+  ready = flags / 2 % 2 == 1;
+  deliver = flags / 4 % 2 == 1;
+  settled = settled;
+}
+
+-- the place that two numbers stand for
+abbrev pub place_by_parts : ℕ → ℕ → ℕ
+place_by_parts high low = high * LOW + low
+
+-- the receipt that is stored in this form
+abbrev pub receipt_in : ReceiptForm → ReceiptFields
+receipt_in (form.Taken flags settled seen frame) =
+    record { seen = seen; call = Handed (Taken frame) (Ok (reply.Took (took_in flags settled))) }
+receipt_in (form.Sent high low seen body) =
+    record { seen = seen; call = Read (reading.Sent (place_by_parts high low) 1 (body ∷ [])) }
+receipt_in (form.Other other) =
+    record { seen = other.value.seen; call = other.value.call }
 
 -- A call was answered under a stamp when the history had `seen` entries. A reply stands there as an
 -- entry, with what was handed in. A refusal is the one that the entries before require, and what

@@ -12,7 +12,7 @@ ghost use Rattle.pay_member.specs.declared.reading.Reading.TheVariants as readin
 
 use crate::closing::replay_to;
 use crate::locked_member::{OwnMember, OwnReplay};
-use crate::receipt::{Call, KeptCall, Receipt};
+use crate::receipt::{Call, Receipt, ReceiptForm, place_by_parts, took_in};
 use crate::seat::Seat;
 use pay_frame::Body;
 use pay_link::Checked;
@@ -215,13 +215,23 @@ pub(crate) fn is_consistent_here(
         ↔ IsConsistent replay.now.member stamp receipt.now.seen receipt.now.call) }
 {
     let seen = replay.entries_taken();
-    match receipt.kept_call() {
-        KeptCall::Taken { frame, took } => {
-            let reply = Reply::Took(*took);
+    match receipt.form() {
+        ReceiptForm::Taken {
+            flags,
+            settled,
+            frame,
+            ..
+        } => {
+            let reply = Reply::Took(took_in(*flags, *settled));
             Ok(has_taken_at(replay.history(), seen, stamp, frame, reply))
         }
-        KeptCall::Sent { number, body } => Ok(has_sent(replay, *number, body.body())),
-        KeptCall::Other(call) => is_call_consistent(alloc, replay, stamp, call),
+        ReceiptForm::Sent {
+            high,
+            low,
+            body,
+            ..
+        } => Ok(has_sent(replay, place_by_parts(*high, *low), body.body())),
+        ReceiptForm::Other(other) => is_call_consistent(alloc, replay, stamp, &other.call),
     }
 }
 

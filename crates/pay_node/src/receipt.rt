@@ -1,7 +1,8 @@
 //! Receipts: the calls of a node, and what a seat keeps of each.
 
-ghost use Rattle.std.specs.Prelude.{◌≡◌, ◌↔◌, [], ◌∷◌, IsTrue, ◌≤◌, IfOk};
-ghost use Rattle.pay_node.specs.Receipts.{fault_of_call, has_entry, ShowsAlone, call_in};
+ghost use Rattle.std.specs.Prelude.{◌≡◌, ◌↔◌, [], ◌∷◌, IsTrue, ◌≤◌, IfOk, IfSome, Ok};
+ghost use Rattle.pay_node.specs.Receipts.{fault_of_call, flags_of, has_entry, place_by_parts};
+ghost use Rattle.pay_node.specs.Receipts.{ShowsAlone, receipt_in, took_in};
 ghost use Rattle.pay_node.specs.Receipts.{entries_after, reading_at};
 ghost use Rattle.pay_member.specs.declared.reading.Reading.TheVariants as reading;
 
@@ -12,6 +13,7 @@ use pay_member::{
 };
 use std::alloc::{AllocError, Global};
 use std::marker::Model;
+use std::mem::size_of;
 
 /// A call and its answer.
 #[derive(Drop)]
@@ -26,15 +28,6 @@ pub enum Call {
 }
 
 impl Call {
-    /// Returns what stands in the room for a call before there is one.
-    pub(crate) fn none(alloc: Global) -> Call {
-        Call::Read(Reading::Sent {
-            from: 0,
-            max: 0,
-            bodies: Bodies::new(Vec::new(alloc)),
-        })
-    }
-
     /// Returns whether the call has an entry in the history.
     pub(crate) fn has_entry(&self) -> bool
         ensures { result ≡ has_entry self.now }
@@ -81,16 +74,52 @@ impl Call {
     }
 }
 
-/// A call in the form of a receipt. Nearly all calls are an accepted frame or a fetched body, which
-/// share what the member has.
+/// The number that the low part of a stored place counts up to.
+pub const LOW: usize = 1 << 16;
+
+/// A call, and how many entries the history had before it.
 #[derive(Drop)]
-pub(crate) enum KeptCall {
-    /// The member accepted this frame.
-    Taken { frame: Checked, took: Took },
-    /// The member showed this body alone at a place of all that it sent.
-    Sent { number: usize, body: SharedBody },
-    /// Any other call.
-    Other(Box<Call>),
+pub(crate) struct SeenCall {
+    seen: usize,
+    pub(crate) call: Call,
+}
+
+impl SeenCall {
+    /// Returns what stands in the room for a call before there is one.
+    pub(crate) fn none(alloc: Global) -> SeenCall {
+        let bodies = Bodies::new(Vec::new(alloc));
+        SeenCall {
+            seen: 0,
+            call: Call::Read(Reading::Sent {
+                from: 0,
+                max: 0,
+                bodies,
+            }),
+        }
+    }
+}
+
+/// A receipt as it is stored, in 16 bytes. Nearly all calls are an accepted frame or a fetched
+/// body, which share what the member has. `seen` is how many entries the history had before the
+/// call.
+#[derive(Drop)]
+pub(crate) enum ReceiptForm {
+    /// The member accepted this frame. `flags` and `settled` say what followed from it.
+    Taken {
+        flags: u8,
+        settled: u16,
+        seen: u32,
+        frame: Checked,
+    },
+    /// The member showed this body alone at the place `high` * 65,536 + `low` of all that it sent.
+    Sent {
+        high: u8,
+        low: u16,
+        seen: u32,
+        body: SharedBody,
+    },
+    /// Any other call, and one with a number that has no room in the other forms.
+    Other(Box<SeenCall>),
 }
 
 // A refused frame stays in its receipt with its value. A clause says of that very frame that the
@@ -99,16 +128,17 @@ pub(crate) enum KeptCall {
 /// call, and the call with its answer.
 #[derive(Drop)]
 pub struct Receipt {
-    seen: usize,
-    call: KeptCall,
+    form: ReceiptForm,
 }
 
+const _: () = prove!(size_of::<Receipt>() == 16);
+
 impl Model for Receipt {
-    ghost use Rattle.pay_node.specs.Receipts.{ReceiptFields, call_in};
+    ghost use Rattle.pay_node.specs.Receipts.{ReceiptFields, receipt_in};
 
     ghost Value = { ReceiptFields };
 
-    ghost view = { λ r. record { seen = r.seen; call = call_in r.call } };
+    ghost view = { λ r. receipt_in r.form };
 }
 
 impl Receipt {
@@ -116,23 +146,30 @@ impl Receipt {
     /// its `answer`. The event is put into `room` unless it is an accepted frame: then the room is
     /// returned.
     pub(crate) fn of_event(
-        room: Box<Call>,
+        room: Box<SeenCall>,
         seen: usize,
         event: Event,
         answer: Result<Reply, MemberFault>,
-    ) -> (Receipt, Option<Box<Call>>)
+    ) -> (Receipt, Option<Box<SeenCall>>)
         ensures { result.0 ≡ record { seen = seen; call = Call.Handed event answer } }
     {
-        match (event, answer) {
-            (Event::Taken(frame), Ok(Reply::Took(took))) => {
-                let call = KeptCall::Taken { frame, took };
-                (Receipt { seen, call }, Some(room))
+        let packed = Packed::of(seen, &answer);
+        match (event, packed) {
+            (Event::Taken(frame), Some(packed)) => {
+                let form = ReceiptForm::Taken {
+                    flags: packed.flags,
+                    settled: packed.settled,
+                    seen: packed.seen,
+                    frame,
+                };
+                (Receipt { form }, Some(room))
             }
-            (event, answer) => {
+            (event, _) => {
                 let mut room = room;
-                *room = Call::Handed { event, answer };
-                let call = KeptCall::Other(room);
-                (Receipt { seen, call }, None)
+                let call = Call::Handed { event, answer };
+                *room = SeenCall { seen, call };
+                let form = ReceiptForm::Other(room);
+                (Receipt { form }, None)
             }
         }
     }
@@ -149,17 +186,41 @@ impl Receipt {
             receipt ≡ reading_at seen (Q.reading question answer.now)) }
     {
         let reading = question.to_reading(alloc, answer)?;
-        let call = KeptCall::Other(Box::new(alloc, Call::Read(reading))?);
-        Ok(Receipt { seen, call })
+        let call = Call::Read(reading);
+        let form = ReceiptForm::Other(Box::new(alloc, SeenCall { seen, call })?);
+        Ok(Receipt { form })
     }
 
     /// Creates the receipt of `body` at `number`, which was shown alone at a history of `seen`
     /// entries.
-    pub(crate) fn of_body(seen: usize, number: usize, body: SharedBody) -> Receipt
-        ensures { result ≡ reading_at seen (reading.Sent number 1 (body ∷ [])) }
+    pub(crate) fn of_body(
+        alloc: Global,
+        seen: usize,
+        number: usize,
+        body: SharedBody,
+    ) -> Result<Receipt, AllocError>
+        ensures { IfOk result (λ receipt.
+            receipt ≡ reading_at seen (reading.Sent number 1 (body ∷ []))) }
     {
-        let call = KeptCall::Sent { number, body };
-        Receipt { seen, call }
+        let (high, low) = (u8::try_from(number / LOW), u16::try_from(number % LOW));
+        if let (Ok(high), Ok(low), Ok(seen)) = (high, low, u32::try_from(seen)) {
+            let form = ReceiptForm::Sent {
+                high,
+                low,
+                seen,
+                body,
+            };
+            return Ok(Receipt { form });
+        }
+        let mut bodies = Vec::new(alloc);
+        bodies.push(body.body().copy(alloc)?)?;
+        let call = Call::Read(Reading::Sent {
+            from: number,
+            max: 1,
+            bodies: Bodies::new(bodies),
+        });
+        let form = ReceiptForm::Other(Box::new(alloc, SeenCall { seen, call })?);
+        Ok(Receipt { form })
     }
 
     /// Returns how many entries the history had before the call. This is the place of the call's
@@ -167,17 +228,20 @@ impl Receipt {
     pub fn history_len(&self) -> usize
         ensures { result ≡ self.now.seen }
     {
-        self.seen
+        match &self.form {
+            ReceiptForm::Taken { seen, .. } | ReceiptForm::Sent { seen, .. } => *seen as usize,
+            ReceiptForm::Other(other) => other.seen,
+        }
     }
 
     /// Returns whether the call has an entry in the history.
     pub fn has_entry(&self) -> bool
         ensures { result ≡ has_entry self.now.call }
     {
-        match &self.call {
-            KeptCall::Taken { .. } => true,
-            KeptCall::Sent { .. } => false,
-            KeptCall::Other(call) => call.has_entry(),
+        match &self.form {
+            ReceiptForm::Taken { .. } => true,
+            ReceiptForm::Sent { .. } => false,
+            ReceiptForm::Other(other) => other.call.has_entry(),
         }
     }
 
@@ -185,37 +249,40 @@ impl Receipt {
     pub(crate) fn tells_no_more(&self, entries: usize) -> bool
         ensures { IsTrue result ↔ (entries_after self.now ≤ entries) }
     {
-        self.seen < entries || (self.seen == entries && !self.has_entry())
+        let seen = self.history_len();
+        seen < entries || (seen == entries && !self.has_entry())
     }
 
     /// Returns why the event that was handed in was refused, if it was.
     pub fn fault(&self) -> Option<MemberFault>
         ensures { result ≡ fault_of_call self.now.call }
     {
-        match &self.call {
-            KeptCall::Other(call) => call.fault(),
-            KeptCall::Taken { .. } | KeptCall::Sent { .. } => None,
+        match &self.form {
+            ReceiptForm::Other(other) => other.call.fault(),
+            ReceiptForm::Taken { .. } | ReceiptForm::Sent { .. } => None,
         }
     }
 
-    /// Returns the call in the form of the receipt.
-    pub(crate) fn kept_call(&self) -> &KeptCall
-        ensures { call_in result.now ≡ self.now.call }
+    /// Returns the form in which the receipt is stored.
+    pub(crate) fn form(&self) -> &ReceiptForm
+        ensures { receipt_in result.now ≡ self.now }
     {
-        &self.call
+        &self.form
     }
 
     /// Returns whether the receipt shows `body` alone, as that of `number`.
     pub(crate) fn shows_alone(&self, number: usize, body: &Body) -> bool
         ensures { IsTrue result ↔ ShowsAlone self.now number body.now }
     {
-        match &self.call {
-            KeptCall::Sent {
-                number: shown,
+        match &self.form {
+            ReceiptForm::Sent {
+                high,
+                low,
                 body: sent,
-            } => *shown == number && is_same_body(sent.body(), body),
-            KeptCall::Other(call) => call.is_of_body(number, body),
-            KeptCall::Taken { .. } => false,
+                ..
+            } => place_by_parts(*high, *low) == number && is_same_body(sent.body(), body),
+            ReceiptForm::Other(other) => other.call.is_of_body(number, body),
+            ReceiptForm::Taken { .. } => false,
         }
     }
 
@@ -230,17 +297,75 @@ impl Receipt {
         ensures { IsTrue result
             ↔ (self.now ≡ reading_at seen (Q.reading question answer.now)) }
     {
-        self.seen == seen && self.is_of(question, answer)
+        self.history_len() == seen && self.is_of(question, answer)
     }
 
     // Returns whether the receipt is of `question` with this `answer`.
     fn is_of<Q: Question>(&self, question: Q, answer: &Q::Answer) -> bool
         ensures { IsTrue result ↔ (self.now.call ≡ Call.Read (Q.reading question answer.now)) }
     {
-        match &self.call {
-            KeptCall::Other(call) => call.is_of(question, answer),
-            KeptCall::Sent { number, body } => question.is_of_body(answer, *number, body.body()),
-            KeptCall::Taken { .. } => false,
+        match &self.form {
+            ReceiptForm::Other(other) => other.call.is_of(question, answer),
+            ReceiptForm::Sent {
+                high,
+                low,
+                body,
+                ..
+            } => question.is_of_body(answer, place_by_parts(*high, *low), body.body()),
+            ReceiptForm::Taken { .. } => false,
         }
     }
+}
+
+// The numbers in the receipt of an accepted frame.
+#[derive(Clone, Copy)]
+struct Packed {
+    flags: u8,
+    settled: u16,
+    seen: u32,
+}
+
+impl Packed {
+    // Packs `seen` and what followed from an accepted frame, if the numbers have room.
+    #[tactic(auto, using(crate::proofs::Packing::took_back))]
+    fn of(seen: usize, answer: &Result<Reply, MemberFault>) -> Option<Packed>
+        ensures seen { IfSome result (λ packed. packed.seen ≡ seen) }
+        ensures took { IfSome result (λ packed.
+            answer.now ≡ Ok (Reply.Took (took_in packed.flags packed.settled))) }
+    {
+        let Ok(Reply::Took(took)) = answer else {
+            return None;
+        };
+        Some(Packed {
+            flags: flags_of(*took),
+            settled: u16::try_from(took.settled).ok()?,
+            seen: u32::try_from(seen).ok()?,
+        })
+    }
+}
+
+// Packs what followed from a frame, but for the count of settled entries.
+fn flags_of(took: Took) -> u8
+    ensures { result ≡ flags_of took }
+{
+    u8::from(took.echo) + 2 * u8::from(took.ready) + 4 * u8::from(took.deliver)
+}
+
+/// Returns what followed from a frame, as `flags` and `settled` in its receipt say.
+pub(crate) fn took_in(flags: u8, settled: u16) -> Took
+    ensures { result ≡ took_in flags settled }
+{
+    Took {
+        echo: flags % 2 == 1,
+        ready: flags / 2 % 2 == 1,
+        deliver: flags / 4 % 2 == 1,
+        settled: u32::from(settled),
+    }
+}
+
+/// Returns the place that `high` and `low` in a receipt stand for.
+pub(crate) fn place_by_parts(high: u8, low: u16) -> usize
+    ensures { result ≡ place_by_parts high low }
+{
+    usize::from(high) * LOW + usize::from(low)
 }

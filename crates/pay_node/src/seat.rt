@@ -12,7 +12,7 @@ ghost use Rattle.pay_node.specs.Seats.{IsOfNow, KeepsReceipt, SeatFields, StaysR
 ghost use Rattle.pay_member.specs.declared.reading.Reading.TheVariants as reading;
 
 use crate::locked_member::OwnMember;
-use crate::receipt::{Call, Receipt};
+use crate::receipt::{Receipt, SeenCall};
 use pay_frame::{Body, SharedBody};
 use pay_member::question::SentFrom;
 use pay_member::{Bodies, Event, MemberFault, Question, Reply};
@@ -109,7 +109,7 @@ pub struct Seat {
     pub(crate) receipts: Vec<Receipt>,
     marks: Marks,
     // for the next call that a receipt can't keep by sharing
-    pub(crate) room: Option<Box<Call>>,
+    pub(crate) room: Option<Box<SeenCall>>,
 }
 
 impl Model for Seat {
@@ -162,12 +162,12 @@ impl Seat {
     }
 
     /// Returns the room for a call, and creates it if there is none.
-    pub(crate) fn take_room(&mut self, alloc: Global) -> Result<Box<Call>, AllocError>
+    pub(crate) fn take_room(&mut self, alloc: Global) -> Result<Box<SeenCall>, AllocError>
         ensures { self.new ≡ self.old }
     {
         match self.room.take() {
             Some(room) => Ok(room),
-            None => Ok(Box::new(alloc, Call::none(alloc))?),
+            None => Ok(Box::new(alloc, SeenCall::none(alloc))?),
         }
     }
 
@@ -241,7 +241,7 @@ impl Seat {
                 if self.keeps(number, body.body()) {
                     return Ok(Some(found));
                 }
-                self.keep_body(seen, number, body.copy()?)?;
+                self.keep_body(alloc, seen, number, body.copy()?)?;
                 Ok(Some(found))
             }
         }
@@ -261,7 +261,13 @@ impl Seat {
     }
 
     // Keeps the receipt of the body of `number`, and marks it.
-    fn keep_body(&mut self, seen: usize, number: usize, body: SharedBody) -> Result<(), AllocError>
+    fn keep_body(
+        &mut self,
+        alloc: Global,
+        seen: usize,
+        number: usize,
+        body: SharedBody,
+    ) -> Result<(), AllocError>
         ensures stamp { self.new.stamp ≡ self.old.stamp }
         ensures receipt { OnOk result (self.new.receipts ≡ self.old.receipts
             ++ reading_receipt seen (reading.Sent number 1 (body ∷ []))) }
@@ -273,10 +279,10 @@ impl Seat {
             (length self.new.marks ≡ max (length self.old.marks) (number + 1)) }
         ensures err { OnErr result (self.new ≡ self.old) }
     {
+        let receipt = Receipt::of_body(alloc, seen, number, body)?;
         self.receipts.reserve(1)?;
         self.marks.set(number, self.receipts.len())?;
-        self.receipts
-            .push_reserved(Receipt::of_body(seen, number, body));
+        self.receipts.push_reserved(receipt);
         Ok(())
     }
 }
@@ -305,11 +311,11 @@ fn is_read_now<Q: Question>(
 /// used.
 pub(crate) fn keep(
     receipts: &mut Vec<Receipt>,
-    room: Box<Call>,
+    room: Box<SeenCall>,
     seen: usize,
     event: Event,
     answer: Result<Reply, MemberFault>,
-) -> Option<Box<Call>>
+) -> Option<Box<SeenCall>>
     requires { vec_len receipts.old < vec_capacity receipts.old }
     ensures { receipts.new.items ≡ receipts.old.items ++ receipts_of seen event answer }
 {
