@@ -1,91 +1,59 @@
 -- Values with their masks: a value more, which nobody voted for, and a vote more.
-use Rattle.std.proofs.Common.{◌≡◌, ℕ, ◌+◌, ◌<◌, ◌≤◌, List, [], ◌∷◌, ◌++◌, length, get_or, slice_index, true, false, refl, ap, ◌∙◌, sym, subst, arith, inl, inr}
-use Rattle.std.specs.Prelude.{Some, None, slice_get, slice_set, slice_index_or, count_ones}
+use Rattle.std.proofs.Common.{◌≡◌, ℕ, ◌+◌, ◌<◌, ◌≤◌, List, [], ◌∷◌, ◌++◌, length, get_or, slice_index, true, false, ap, ◌∙◌, sym, subst, arith, inl, inr}
+use Rattle.std.specs.Prelude.{Option, Some, None, slice_get, slice_set, count_ones}
 use Rattle.std.specs.List.{count_by}
 use Rattle.std.specs.Option.{option_map}
 use Rattle.std.proofs.lemmas.Option.{slice_get-map, slice_get_within, slice_get-get_or}
-use Rattle.std.proofs.lemmas.List.{map-set, map-append, length-map, length_push, get_or-map, get_or_append_left, get_or_push}
+use Rattle.std.proofs.lemmas.List.{map-set, map-append, length-map, length-append, length_push, append-nil, get_or-map, get_or_append_left, get_or_push}
 use Rattle.std.proofs.Math.Seq.{map-set_same}
 use Rattle.std.proofs.lemmas.Bool.{cases_eq, cases_lt}
 use Rattle.pay_echo.specs.Plain.{AreDistinct, is_at, IsPlaceOf}
-use Rattle.pay_echo.specs.Masks.{has, with_process, place_by, votes_by, AreVotes, mask_of, values_of, masks_of, vote_places, with_place, tally_by, TallyFields, IsTally}
-use Rattle.pay_echo.specs.declared.tally.Candidate.{Candidate}
+use Rattle.pay_echo.specs.Masks.{has, with_process, place_by, votes_by, AreMasks, mask_of, values_of, masks_of, votes_of, IsGrown}
+use Rattle.pay_echo.specs.declared.candidate.Candidate.{Candidate}
 use Rattle.pay_echo.specs.declared.instance.VoteKind.{VoteKind}
 use Rattle.pay_echo.specs.declared.instance.VoteKind.TheVariants as kind
-use Rattle.pay_echo.proofs.MaskVotes.{length-votes_by, votes_by-at, votes_by-nobody, votes_by-one, counts_are_votes, place_is, place_is_none, AreVotes-none, AreVotes-nobody, AreVotes-one}
+use Rattle.pay_echo.proofs.MaskVotes.{votes_by-at, votes_by-nobody, votes_by-one, counts_are_votes, place_is_first, place_is_none, masks_with_nobody, AreMasks-one}
 
--- before any vote
-pub IsTally-none : (members : ℕ) → members ≤ 128 → IsTally members [] 0 0
-IsTally-none members few = record {
-  few = few;
-  distinct = λ j k v one other. cc;
-  echoes = AreVotes-none members;
-  readys = AreVotes-none members;
-}
+-- ---- what is read of them
 
--- ---- how many there are
+pub value-there : (candidates : List Candidate) (place : ℕ) (c : Candidate) → slice_get candidates place ≡ Some c → slice_get (values_of candidates) place ≡ Some c.value
+value-there candidates place c there = slice_get-map (λ (c : Candidate). c.value) candidates place ∙ ap (option_map (λ (c : Candidate). c.value)) there
 
-pub length-places : (members : ℕ) (candidates : List Candidate) (of : VoteKind) → length (vote_places of (tally_by members candidates)) ≡ members
-length-places members candidates kind.Echo = length-votes_by members (masks_of kind.Echo candidates)
-length-places members candidates kind.Ready = length-votes_by members (masks_of kind.Ready candidates)
+pub length-values : (candidates : List Candidate) → length (values_of candidates) ≡ length candidates
+length-values candidates = length-map candidates (λ (c : Candidate). c.value)
 
--- of what they show
-pub shown-members : (members : ℕ) (candidates : List Candidate) (t : TallyFields) (of : VoteKind) → tally_by members candidates ≡ t → length (vote_places of t) ≡ members
-shown-members members candidates t of shown = ap (λ (t : TallyFields). length (vote_places of t)) (sym shown) ∙ length-places members candidates of
-
-pub shown-values : (members : ℕ) (candidates : List Candidate) (t : TallyFields) → tally_by members candidates ≡ t → length t.values ≡ length candidates
-shown-values members candidates t shown = ap (λ (t : TallyFields). length t.values) (sym shown) ∙ length-map candidates (λ (c : Candidate). c.value)
-
-pub value-there : (members : ℕ) (candidates : List Candidate) (t : TallyFields) → tally_by members candidates ≡ t → (place : ℕ) (c : Candidate) → slice_get candidates place ≡ Some c → slice_get t.values place ≡ Some c.value
-value-there members candidates t shown place c there =
-    ap (λ (t : TallyFields). slice_get t.values place) (sym shown)
-    ∙ slice_get-map (λ (c : Candidate). c.value) candidates place
-    ∙ ap (option_map (λ (c : Candidate). c.value)) there
-
-pub places-are : (members : ℕ) (candidates : List Candidate) (of : VoteKind) → vote_places of (tally_by members candidates) ≡ votes_by members (masks_of of candidates)
-places-are members candidates kind.Echo = refl
-places-are members candidates kind.Ready = refl
-
-pub votes-are : (members : ℕ) (candidates : List Candidate) (echoed readied : ℕ) (of : VoteKind) → IsTally members candidates echoed readied → (voted : ℕ) × AreVotes members (masks_of of candidates) voted
-votes-are members candidates echoed readied kind.Echo tally = (echoed, tally.echoes)
-votes-are members candidates echoed readied kind.Ready tally = (readied, tally.readys)
+mask-at : (candidates : List Candidate) (place : ℕ) (c : Candidate) (of : VoteKind) → place < length candidates → c ≡ get_or candidates place c → slice_index (masks_of of candidates) place ≡ mask_of of c
+mask-at candidates place c of below here = get_or-map (mask_of of) candidates place c 0 below ∙ ap (mask_of of) (sym here)
 
 -- how many voted for the value at a place
-pub count-at_place : (members : ℕ) (candidates : List Candidate) (echoed readied place : ℕ) (c : Candidate) (of : VoteKind) → IsTally members candidates echoed readied → place < length candidates → c ≡ get_or candidates place c → count_ones (mask_of of c) ≡ count_by (is_at place) (vote_places of (tally_by members candidates))
-count-at_place members candidates echoed readied place c of tally below here =
-    ap count_ones (ap (mask_of of) here ∙ sym (get_or-map (mask_of of) candidates place c 0 below))
-    ∙ sym (counts_are_votes members (masks_of of candidates) place (votes-are members candidates echoed readied of tally).1.are (omega (arith, below, length-map candidates (mask_of of))))
-    ∙ ap (count_by (is_at place)) (sym (places-are members candidates of))
+pub count-at_place : (members : ℕ) (candidates : List Candidate) (place : ℕ) (c : Candidate) (of : VoteKind) → AreMasks members (masks_of of candidates) → place < length candidates → c ≡ get_or candidates place c → count_ones (mask_of of c) ≡ count_by (is_at place) (votes_of members of candidates)
+count-at_place members candidates place c of are below here =
+    ap count_ones (sym (mask-at candidates place c of below here))
+    ∙ sym (counts_are_votes members (masks_of of candidates) place are (omega (arith, below, length-map candidates (mask_of of))))
 
 -- ---- whose vote is where
 
--- of what they show
-shown-place : (members : ℕ) (candidates : List Candidate) (t : TallyFields) (process : ℕ) (of : VoteKind) → tally_by members candidates ≡ t → process < length (vote_places of t) → place_by (masks_of of candidates) process ≡ slice_index_or (vote_places of t) process None
-shown-place members candidates t process of shown small =
-    sym (votes_by-at members (masks_of of candidates) process (omega (arith, small, shown-members members candidates t of shown)))
-    ∙ ap (λ places. slice_index_or places process None) (sym (places-are members candidates of))
-    ∙ ap (λ (t : TallyFields). slice_index_or (vote_places of t) process None) shown
+module _ (candidates : List Candidate) (process : ℕ) (of : VoteKind) where
+  -- the process is in none of the masks before a place
+  abbrev pub IsOut : ℕ → Type 0
+  IsOut place = (k : ℕ) → k < place → has (slice_index (masks_of of candidates) k) process ≡ false
 
-module _ (members : ℕ) (candidates : List Candidate) (echoed readied process : ℕ) (t : TallyFields) (of : VoteKind) (tally : IsTally members candidates echoed readied) (shown : tally_by members candidates ≡ t) (small : process < length (vote_places of t)) where
-  pub place-found : (place : ℕ) (c : Candidate) → place < length candidates → c ≡ get_or candidates place c → has (mask_of of c) process ≡ true → Some place ≡ slice_index_or (vote_places of t) process None
-  place-found place c below here there =
-      sym (place_is members (masks_of of candidates) place process (votes-are members candidates echoed readied of tally).1.are (omega (arith, below, length-map candidates (mask_of of)))
-      (ap (λ mask. has mask process) (get_or-map (mask_of of) candidates place c 0 below ∙ ap (mask_of of) (sym here)) ∙ there))
-      ∙ shown-place members candidates t process of shown small
+  pub place-found : (place : ℕ) (c : Candidate) → place < length candidates → c ≡ get_or candidates place c → has (mask_of of c) process ≡ true → IsOut place → place_by (masks_of of candidates) process ≡ Some place
+  place-found place c below here there before =
+      place_is_first (masks_of of candidates) place process (omega (arith, below, length-map candidates (mask_of of)))
+      (ap (λ mask. has mask process) (mask-at candidates place c of below here) ∙ there) before
 
-  pub place-none : ((k : ℕ) → k < length candidates → has (slice_index (masks_of of candidates) k) process ≡ false) → None ≡ slice_index_or (vote_places of t) process None
-  place-none out =
-      sym (place_is_none (masks_of of candidates) process (λ k below. out k (omega (arith, below, length-map candidates (mask_of of)))))
-      ∙ shown-place members candidates t process of shown small
+  pub place-none : IsOut (length candidates) → place_by (masks_of of candidates) process ≡ None
+  place-none out = place_is_none (masks_of of candidates) process (λ k below. out k (omega (arith, below, length-map candidates (mask_of of))))
 
-pub not-there : (candidates : List Candidate) (process place : ℕ) (of : VoteKind) (c : Candidate) → place < length candidates → c ≡ get_or candidates place c → has (mask_of of c) process ≡ false → ((k : ℕ) → k < place → has (slice_index (masks_of of candidates) k) process ≡ false) → (k : ℕ) → k < place + 1 → has (slice_index (masks_of of candidates) k) process ≡ false
-not-there candidates process place of c below here out before k less =
-    elim (cases_eq k place) [
-      | inl e ↦
-          (let P : ℕ → Type 0 = λ j. has (slice_index (masks_of of candidates) j) process ≡ false in
-          subst P (sym e) (ap (λ mask. has mask process) (get_or-map (mask_of of) candidates place c 0 below ∙ ap (mask_of of) (sym here)) ∙ out))
-      | inr ne ↦ before k (omega (arith, less, ne))
-    ]
+  pub not-there : (place : ℕ) (c : Candidate) → place < length candidates → c ≡ get_or candidates place c → has (mask_of of c) process ≡ false → IsOut place → IsOut (place + 1)
+  not-there place c below here out before k less =
+      elim (cases_eq k place) [
+        | inl e ↦
+            (let P : ℕ → Type 0 = λ j. has (slice_index (masks_of of candidates) j) process ≡ false in
+            subst P (sym e) (ap (λ mask. has mask process) (mask-at candidates place c of below here) ∙ out))
+        | inr ne ↦ before k (omega (arith, less, ne))
+      ]
 
 -- ---- a value more
 
@@ -124,127 +92,61 @@ distinct-more values v distinct absent j k u one other =
         let at_end : length values ≡ i = omega (arith, past, less, long) in
         slice_get-get_or (values ++ v ∷ []) i none less ∙ ap (λ (w : List ℕ). Some w) (get_or_push values v none i at_end)
 
-module _ (members : ℕ) (candidates : List Candidate) (value : List ℕ) where
+module _ (candidates : List Candidate) (value : List ℕ) where
   abbrev fresh : Candidate
   fresh = record { value = value; echoes = 0; readys = 0 }
 
-  values-more : values_of (candidates ++ fresh ∷ []) ≡ values_of candidates ++ value ∷ []
+  pub values-more : values_of (candidates ++ fresh ∷ []) ≡ values_of candidates ++ value ∷ []
   values-more = map-append (λ (c : Candidate). c.value) candidates (fresh ∷ [])
 
-  echo_masks-more : masks_of kind.Echo (candidates ++ fresh ∷ []) ≡ masks_of kind.Echo candidates ++ 0 ∷ []
-  echo_masks-more = map-append (mask_of kind.Echo) candidates (fresh ∷ [])
+  masks-more : (of : VoteKind) → masks_of of (candidates ++ fresh ∷ []) ≡ masks_of of candidates ++ 0 ∷ []
+  masks-more kind.Echo = map-append (mask_of kind.Echo) candidates (fresh ∷ [])
+  masks-more kind.Ready = map-append (mask_of kind.Ready) candidates (fresh ∷ [])
 
-  ready_masks-more : masks_of kind.Ready (candidates ++ fresh ∷ []) ≡ masks_of kind.Ready candidates ++ 0 ∷ []
-  ready_masks-more = map-append (mask_of kind.Ready) candidates (fresh ∷ [])
+-- of candidates that may have grown
+pub values-grown : (before after : List Candidate) → IsGrown before after → (more : List (List ℕ)) × (values_of after ≡ values_of before ++ more)
+values-grown before after (inl same) = ([], ap values_of same ∙ sym (append-nil (values_of before)))
+values-grown before after (inr (v, one)) = (v ∷ [], ap values_of one ∙ values-more before v)
 
-  pub IsTally-more : (echoed readied : ℕ) → AreDistinct (values_of candidates ++ value ∷ []) → IsTally members candidates echoed readied → IsTally members (candidates ++ fresh ∷ []) echoed readied
-  IsTally-more echoed readied distinct tally = record {
-    few = tally.few;
-    distinct = subst AreDistinct (sym values-more) distinct;
-    echoes = subst (λ masks. AreVotes members masks echoed) (sym echo_masks-more) (AreVotes-nobody members (masks_of kind.Echo candidates) echoed tally.echoes);
-    readys = subst (λ masks. AreVotes members masks readied) (sym ready_masks-more) (AreVotes-nobody members (masks_of kind.Ready candidates) readied tally.readys);
-  }
+pub length-grown : (before after : List Candidate) → IsGrown before after → length after ≤ length before + 1
+length-grown before after (inl same) = let e = ap length same in omega (arith, e)
+length-grown before after (inr (v, one)) = let e = ap length one in let long = length-append before (fresh before v ∷ []) in omega (arith, e, long)
 
-  pub tally_by-more : (echoed readied : ℕ) → IsTally members candidates echoed readied → tally_by members (candidates ++ fresh ∷ []) ≡ record { values = values_of candidates ++ value ∷ []; echoes = votes_by members (masks_of kind.Echo candidates); readys = votes_by members (masks_of kind.Ready candidates) }
-  tally_by-more echoed readied tally =
-      let echoes = ap (votes_by members) echo_masks-more ∙ votes_by-nobody members (masks_of kind.Echo candidates) tally.echoes.are in
-      let readys = ap (votes_by members) ready_masks-more ∙ votes_by-nobody members (masks_of kind.Ready candidates) tally.readys.are in
-      λ i. record { values = values-more i; echoes = echoes i; readys = readys i }
+pub masks-grown : (members : ℕ) (before after : List Candidate) (of : VoteKind) → IsGrown before after → AreMasks members (masks_of of before) → AreMasks members (masks_of of after)
+masks-grown members before after of (inl same) are = subst (λ (candidates : List Candidate). AreMasks members (masks_of of candidates)) (sym same) are
+masks-grown members before after of (inr (v, one)) are =
+    subst (AreMasks members) (sym (ap (masks_of of) one ∙ masks-more before v of)) (masks_with_nobody members (masks_of of before) are)
 
--- of what they show
-module _ (members : ℕ) (candidates candidates_now : List Candidate) (echoed readied : ℕ) (t : TallyFields) (v value : List ℕ) (tally : IsTally members candidates echoed readied) (shown : tally_by members candidates ≡ t) (now : candidates_now ≡ candidates ++ fresh members candidates value ∷ []) (same : value ≡ v) where
-  pub values-shown : values_of candidates_now ≡ t.values ++ v ∷ []
-  values-shown =
-      ap values_of now ∙ values-more members candidates value ∙ ap (λ (w : List ℕ). values_of candidates ++ w ∷ []) same
-      ∙ ap (λ (t : TallyFields). t.values ++ v ∷ []) shown
-
-  pub echoes-shown : votes_by members (masks_of kind.Echo candidates_now) ≡ t.echoes
-  echoes-shown =
-      ap (λ candidates. votes_by members (masks_of kind.Echo candidates)) now ∙ ap (λ (t : TallyFields). t.echoes) (tally_by-more members candidates value echoed readied tally)
-      ∙ ap (λ (t : TallyFields). t.echoes) shown
-
-  pub readys-shown : votes_by members (masks_of kind.Ready candidates_now) ≡ t.readys
-  readys-shown =
-      ap (λ candidates. votes_by members (masks_of kind.Ready candidates)) now ∙ ap (λ (t : TallyFields). t.readys) (tally_by-more members candidates value echoed readied tally)
-      ∙ ap (λ (t : TallyFields). t.readys) shown
-
-  pub distinct-shown : IsPlaceOf v t.values None → AreDistinct (t.values ++ v ∷ [])
-  distinct-shown absent = distinct-more t.values v (subst (λ (t : TallyFields). AreDistinct t.values) shown tally.distinct) absent
-
-  pub IsTally-shown : IsPlaceOf v t.values None → IsTally members candidates_now echoed readied
-  IsTally-shown absent =
-      let fits : AreDistinct (values_of candidates ++ value ∷ []) =
-      rw (same) (subst (λ (t : TallyFields). AreDistinct (t.values ++ v ∷ [])) (sym shown) (distinct-shown absent)) in
-      rw (now) (IsTally-more members candidates value echoed readied fits tally)
+pub votes-grown : (members : ℕ) (before after : List Candidate) (of : VoteKind) → IsGrown before after → AreMasks members (masks_of of before) → votes_of members of after ≡ votes_of members of before
+votes-grown members before after of (inl same) are = ap (votes_of members of) same
+votes-grown members before after of (inr (v, one)) are =
+    ap (votes_by members) (ap (masks_of of) one ∙ masks-more before v of) ∙ votes_by-nobody members (masks_of of before) are
 
 -- ---- a vote more
 
-module _ (members : ℕ) (candidates : List Candidate) (echoed readied place process : ℕ) (c : Candidate) (tally : IsTally members candidates echoed readied) (below : place < length candidates) (here : c ≡ get_or candidates place c) (small : process < members) where
-  -- the mask of either kind there
-  mask-here : (of : VoteKind) → mask_of of c ≡ slice_index (masks_of of candidates) place
-  mask-here of = ap (mask_of of) here ∙ sym (get_or-map (mask_of of) candidates place c 0 below)
+-- what a change leaves of the votes of one kind
+abbrev pub Shows : ℕ → VoteKind → List Candidate → List (Option ℕ) → Type 0
+Shows members of candidates votes = AreMasks members (masks_of of candidates) × (votes_of members of candidates ≡ votes)
 
-  inside : (of : VoteKind) → place < length (masks_of of candidates)
-  inside of = omega (arith, below, length-map candidates (mask_of of))
+module _ (candidates : List Candidate) (place : ℕ) (c c_now : Candidate) (below : place < length candidates) (here : c ≡ get_or candidates place c) where
+  abbrev now : List Candidate
+  now = slice_set candidates place c_now
 
-  none-by : (of : VoteKind) → slice_index_or (vote_places of (tally_by members candidates)) process None ≡ None → place_by (masks_of of candidates) process ≡ None
-  none-by of first = sym (votes_by-at members (masks_of of candidates) process small) ∙ ap (λ places. slice_index_or places process None) (sym (places-are members candidates of)) ∙ first
+  pub same-values : c_now.value ≡ c.value → values_of now ≡ values_of candidates
+  same-values same = map-set_same (λ (x : Candidate). x.value) candidates place c_now c (same ∙ ap (λ (x : Candidate). x.value) here)
 
-  module _ (of : VoteKind) (c_now : Candidate) (changed : mask_of of c_now ≡ with_process (mask_of of c) process) where
-    abbrev now : List Candidate
-    now = slice_set candidates place c_now
+  module _ (members : ℕ) (of : VoteKind) (are : AreMasks members (masks_of of candidates)) where
+    pub unchanged-Shows : mask_of of c_now ≡ mask_of of c → Shows members of now (votes_of members of candidates)
+    unchanged-Shows same =
+        let masks : masks_of of now ≡ masks_of of candidates = map-set_same (mask_of of) candidates place c_now c (same ∙ ap (mask_of of) here) in
+        (subst (AreMasks members) (sym masks) are, ap (votes_by members) masks)
 
-    masks-changed : masks_of of now ≡ slice_set (masks_of of candidates) place (with_process (slice_index (masks_of of candidates) place) process)
-    masks-changed = map-set (mask_of of) candidates place c_now ∙ ap (slice_set (masks_of of candidates) place) (changed ∙ ap (λ m. with_process m process) (mask-here of))
-
-    votes-changed : (voted : ℕ) → AreVotes members (masks_of of candidates) voted → slice_index_or (vote_places of (tally_by members candidates)) process None ≡ None → AreVotes members (masks_of of now) (with_process voted process)
-    votes-changed voted votes first =
-        subst (λ masks. AreVotes members masks (with_process voted process)) (sym masks-changed)
-        (AreVotes-one members (masks_of of candidates) voted place process votes (inside of) small (none-by of first))
-
-    places-changed : (voted : ℕ) → AreVotes members (masks_of of candidates) voted → slice_index_or (vote_places of (tally_by members candidates)) process None ≡ None → votes_by members (masks_of of now) ≡ slice_set (votes_by members (masks_of of candidates)) process (Some place)
-    places-changed voted votes first =
-        ap (votes_by members) masks-changed ∙ votes_by-one members (masks_of of candidates) voted place process votes (inside of) small (none-by of first)
-
-  same-values : (c_now : Candidate) → c_now.value ≡ c.value → values_of (slice_set candidates place c_now) ≡ values_of candidates
-  same-values c_now same = map-set_same (λ (x : Candidate). x.value) candidates place c_now c (same ∙ ap (λ (x : Candidate). x.value) here)
-
-  same-masks : (of : VoteKind) (c_now : Candidate) → mask_of of c_now ≡ mask_of of c → masks_of of (slice_set candidates place c_now) ≡ masks_of of candidates
-  same-masks of c_now same = map-set_same (mask_of of) candidates place c_now c (same ∙ ap (mask_of of) here)
-
-  module _ (mask : ℕ) where
-    abbrev echoed_there : Candidate
-    echoed_there = record { value = c.value; echoes = mask; readys = c.readys }
-
-    abbrev readied_there : Candidate
-    readied_there = record { value = c.value; echoes = c.echoes; readys = mask }
-
-    pub IsTally-echo : mask ≡ with_process c.echoes process → slice_index_or (votes_by members (masks_of kind.Echo candidates)) process None ≡ None → IsTally members (slice_set candidates place echoed_there) (with_process echoed process) readied
-    IsTally-echo changed first = record {
-      few = tally.few;
-      distinct = subst AreDistinct (sym (same-values echoed_there refl)) tally.distinct;
-      echoes = votes-changed kind.Echo echoed_there changed echoed tally.echoes first;
-      readys = subst (λ masks. AreVotes members masks readied) (sym (same-masks kind.Ready echoed_there refl)) tally.readys;
-    }
-
-    pub tally_by-echo : mask ≡ with_process c.echoes process → slice_index_or (votes_by members (masks_of kind.Echo candidates)) process None ≡ None → tally_by members (slice_set candidates place echoed_there) ≡ with_place kind.Echo process place (tally_by members candidates)
-    tally_by-echo changed first =
-        let values = same-values echoed_there refl in
-        let echoes = places-changed kind.Echo echoed_there changed echoed tally.echoes first in
-        let readys = ap (votes_by members) (same-masks kind.Ready echoed_there refl) in
-        λ i. record { values = values i; echoes = echoes i; readys = readys i }
-
-    pub IsTally-ready : mask ≡ with_process c.readys process → slice_index_or (votes_by members (masks_of kind.Ready candidates)) process None ≡ None → IsTally members (slice_set candidates place readied_there) echoed (with_process readied process)
-    IsTally-ready changed first = record {
-      few = tally.few;
-      distinct = subst AreDistinct (sym (same-values readied_there refl)) tally.distinct;
-      echoes = subst (λ masks. AreVotes members masks echoed) (sym (same-masks kind.Echo readied_there refl)) tally.echoes;
-      readys = votes-changed kind.Ready readied_there changed readied tally.readys first;
-    }
-
-    pub tally_by-ready : mask ≡ with_process c.readys process → slice_index_or (votes_by members (masks_of kind.Ready candidates)) process None ≡ None → tally_by members (slice_set candidates place readied_there) ≡ with_place kind.Ready process place (tally_by members candidates)
-    tally_by-ready changed first =
-        let values = same-values readied_there refl in
-        let echoes = ap (votes_by members) (same-masks kind.Echo readied_there refl) in
-        let readys = places-changed kind.Ready readied_there changed readied tally.readys first in
-        λ i. record { values = values i; echoes = echoes i; readys = readys i }
+    pub changed-Shows : (process : ℕ) → process < members → get_or (votes_of members of candidates) process None ≡ None → mask_of of c_now ≡ with_process (mask_of of c) process → Shows members of now (slice_set (votes_of members of candidates) process (Some place))
+    changed-Shows process small first changed =
+        let masks : masks_of of now ≡ slice_set (masks_of of candidates) place (with_process (slice_index (masks_of of candidates) place) process) =
+        map-set (mask_of of) candidates place c_now ∙ ap (slice_set (masks_of of candidates) place) (changed ∙ ap (λ m. with_process m process) (sym (mask-at candidates place c of below here))) in
+        let inside : place < length (masks_of of candidates) = omega (arith, below, length-map candidates (mask_of of)) in
+        let none : place_by (masks_of of candidates) process ≡ None = sym (votes_by-at members (masks_of of candidates) process small) ∙ first in (
+          subst (AreMasks members) (sym masks) (AreMasks-one members (masks_of of candidates) place process are inside small none),
+          ap (votes_by members) masks ∙ votes_by-one members (masks_of of candidates) place process are inside small none,
+        )

@@ -1,11 +1,11 @@
 -- The bits of a mask: how many are set, and one set more.
-use Rattle.std.proofs.Common.{◌≡◌, ◌≢◌, ℕ, ◌*◌, ◌%◌, ◌<◌, ◌^◌, Bool, true, false, cond, eqb, length, map, ap, ◌∙◌, sym, subst, arith, inl, inr}
-use Rattle.std.specs.Prelude.{bit_or, count_ones}
+use Rattle.std.proofs.Common.{◌≡◌, ◌≢◌, ℕ, ◌<◌, ◌^◌, Bool, true, false, cond, eqb, length, map, ap, ◌∙◌, sym, subst, arith, inl, inr}
+use Rattle.std.specs.Prelude.{count_ones}
 use Rattle.std.specs.Int.{bit_at}
 use Rattle.std.specs.List.{range_with_len}
 use Rattle.std.proofs.lemmas.Bool.{cases_eq, eq-eqb, ne_eqb, cond-true, cond-false}
 use Rattle.std.proofs.lemmas.List.FromFn.{length-map-range_with_len, get_or-map-range_with_len}
-use Rattle.std.proofs.lemmas.Nat.{pow_below, one_shl}
+use Rattle.std.proofs.lemmas.Nat.{pow_below}
 use Rattle.std.proofs.lemmas.Nat.Bits.{bit_at_or, bit_at-pow_same, bit_at-pow_other, bit_at-lt, same_from_bits_below, bit_at_above}
 use Rattle.std.proofs.lemmas.Simd.{mask_l-lt, bit_mask_l, ones-mask_l}
 use lib.Count.{ones}
@@ -57,9 +57,3 @@ has-none p = ne_eqb (bit_at 0 p) 1 (λ e. let none = bit_at_above 0 0 p (omega a
 
 pub pow_pos : (k : ℕ) → 0 < 2 ^ k
 pow_pos k = grind (arith, pow_below)
-
--- ---- what the code computes
-
--- `1 << process` in 128 bits
-pub shifted : (mask process : ℕ) → process < 128 → bit_or mask (1 * 2 ^ process % 2 ^ 128) ≡ with_process mask process
-shifted mask process small = ap (bit_or mask) (one_shl process 128 small)

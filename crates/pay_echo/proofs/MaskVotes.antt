@@ -1,6 +1,6 @@
 -- Votes as masks, one for each value.
 use Rattle.std.proofs.Common.{◌≡◌, ◌≢◌, ℕ, zero, suc, ◌+◌, ◌<◌, ◌≤◌, ◌^◌, ◌⊎◌, Bool, true, false, cond, List, [], ◌∷◌, ◌++◌, length, map, replicate, get_or, slice_index, refl, ap, ap₂, ◌∙◌, sym, subst, arith, inl, inr}
-use Rattle.std.specs.Prelude.{Option, Some, None, is_some, slice_set, count_ones}
+use Rattle.std.specs.Prelude.{Option, Some, None, slice_set, count_ones}
 use Rattle.std.specs.List.{count_by, find, range_with_len}
 use Rattle.std.proofs.lemmas.Bool.{cases_eq, cases_lt, cases_Bool, eq-eqb, ne_eqb, both_ways}
 use Rattle.std.proofs.lemmas.List.{length-replicate, get_or-replicate, length-set, length-append, get_or-set_same, get_or-set_other, get_or_append_left, get_or_past, get_or_push}
@@ -9,39 +9,53 @@ use Rattle.std.proofs.lemmas.Nat.{or_lt, pow_below}
 use Rattle.pay_echo.specs.Broadcast.{size}
 use Rattle.pay_echo.specs.Plain.{is_at}
 use Rattle.pay_echo.proofs.Lists.{one, count_by-cons, map-same}
-use Rattle.pay_echo.specs.Masks.{has, with_process, place_by, votes_by, AreMasks, IsUnion, AreVotes}
+use Rattle.pay_echo.specs.Masks.{has, with_process, place_by, votes_by, AreMasks}
 use Rattle.pay_echo.proofs.MaskBits.{counts_are_sizes, pow_pos, has-with_same, has-with_other, has-none}
 
 -- the first number of a range that passes, or none passes
 find-range : (p : ℕ → Bool) (from n : ℕ) →
     ((find p (range_with_len from n) ≡ None) × ((k : ℕ) → from ≤ k → k < from + n → p k ≡ false))
-    ⊎ ((k : ℕ) × (find p (range_with_len from n) ≡ Some k) × (k < from + n) × (p k ≡ true))
+    ⊎ ((k : ℕ) × (find p (range_with_len from n) ≡ Some k) × (k < from + n) × (p k ≡ true) × ((j : ℕ) → from ≤ j → j < k → p j ≡ false))
 find-range p from zero = inl (refl, λ k low high. absurd (omega arith))
 find-range p from (suc n) =
     elim (cases_Bool (p from)) [
-      | inl pass ↦ inr (from, ap (λ b. cond b (Some from) (find p (range_with_len (from + 1) n))) pass, omega arith, pass)
+      | inl pass ↦ inr (from, ap (λ b. cond b (Some from) (find p (range_with_len (from + 1) n))) pass, omega arith, pass, λ j low high. absurd (omega (arith, low, high)))
       | inr fail ↦
           elim (find-range p (from + 1) n) [
             | inl none ↦ inl (
               ap (λ b. cond b (Some from) (find p (range_with_len (from + 1) n))) fail ∙ none.0,
               λ k low high. elim (cases_eq k from) [ inl e ↦ ap p e ∙ fail | inr ne ↦ none.1 k (omega arith) (omega arith) ],
             )
-            | inr some ↦ inr (some.0, ap (λ b. cond b (Some from) (find p (range_with_len (from + 1) n))) fail ∙ some.1, omega (arith, some.2), some.3)
+            | inr some ↦ inr (
+              some.0,
+              ap (λ b. cond b (Some from) (find p (range_with_len (from + 1) n))) fail ∙ some.1,
+              omega (arith, some.2),
+              some.3,
+              λ j low high. elim (cases_eq j from) [ inl e ↦ ap p e ∙ fail | inr ne ↦ some.4 j (omega arith) high ],
+            )
           ]
     ]
 
--- who is in one mask voted for its value
-pub place_is : (members : ℕ) (masks : List ℕ) (k process : ℕ) → AreMasks members masks → k < length masks → has (slice_index masks k) process ≡ true → place_by masks process ≡ Some k
+-- a process's vote stands in the first mask that the process is in
+pub place_is_first : (masks : List ℕ) (k process : ℕ) → k < length masks → has (slice_index masks k) process ≡ true → ((j : ℕ) → j < k → has (slice_index masks j) process ≡ false) → place_by masks process ≡ Some k
 unfolding place_by
-place_is members masks k process are below there =
+place_is_first masks k process below there before =
     elim (find-range (λ j. has (slice_index masks j) process) 0 (length masks)) [
       | inl none ↦ absurd (both_ways _ (none.1 k (omega arith) (omega arith)) there)
       | inr some ↦
           some.1 ∙ ap Some (elim (cases_eq some.0 k) [
             | inl e ↦ e
-            | inr ne ↦ absurd (both_ways _ (are.disjoint some.0 k process ne some.3) there)
+            | inr ne ↦
+                elim (cases_lt some.0 k) [
+                  | inl less ↦ absurd (both_ways _ (before some.0 less) some.3)
+                  | inr more ↦ absurd (both_ways _ (some.4 k (omega arith) (omega (arith, ne, more))) there)
+                ]
           ])
     ]
+
+-- who is in one mask voted for its value
+place_is : (members : ℕ) (masks : List ℕ) (k process : ℕ) → AreMasks members masks → k < length masks → has (slice_index masks k) process ≡ true → place_by masks process ≡ Some k
+place_is members masks k process are below there = place_is_first masks k process below there (λ j less. are.disjoint k j process (λ e. omega (arith, e, less)) there)
 
 -- who is in none didn't vote
 pub place_is_none : (masks : List ℕ) (process : ℕ) → ((k : ℕ) → k < length masks → has (slice_index masks k) process ≡ false) → place_by masks process ≡ None
@@ -96,7 +110,7 @@ votes_with_one members masks more process k below here others =
           ∙ sym (others p ne)
     ]))
 
-pub with-lt : (members mask process : ℕ) → mask < 2 ^ members → process < members → with_process mask process < 2 ^ members
+with-lt : (members mask process : ℕ) → mask < 2 ^ members → process < members → with_process mask process < 2 ^ members
 with-lt members mask process below small = or_lt members mask (2 ^ process) below (pow_below process members small)
 
 -- where the masks are the same for a process, so is its vote
@@ -170,7 +184,7 @@ module _ (members : ℕ) (masks : List ℕ) (k process : ℕ) (are : AreMasks me
       (place_is members more k process masks_with_one_more (omega arith) (ap (λ m. has m process) more_here ∙ has-with_same (slice_index masks k) process))
       (λ p ne. place_by-same masks more p long (λ j. has-more_other j p ne))
 
-pub one_vote_more : (members : ℕ) (masks : List ℕ) (k process : ℕ) → AreMasks members masks → k < length masks → process < members → ((j : ℕ) → has (slice_index masks j) process ≡ false) → (AreMasks members (slice_set masks k (with_process (slice_index masks k) process))) × (votes_by members (slice_set masks k (with_process (slice_index masks k) process)) ≡ slice_set (votes_by members masks) process (Some k))
+one_vote_more : (members : ℕ) (masks : List ℕ) (k process : ℕ) → AreMasks members masks → k < length masks → process < members → ((j : ℕ) → has (slice_index masks j) process ≡ false) → (AreMasks members (slice_set masks k (with_process (slice_index masks k) process))) × (votes_by members (slice_set masks k (with_process (slice_index masks k) process)) ≡ slice_set (votes_by members masks) process (Some k))
 unfolding more
 one_vote_more members masks k process are below small out = (masks_with_one_more members masks k process are below small out, votes_with_one_more members masks k process are below small out)
 
@@ -187,7 +201,7 @@ unfolding votes_by
 length-votes_by members masks = length-map-range_with_len (place_by masks) 0 members
 
 -- who didn't vote is in no mask
-pub in_no_mask : (members : ℕ) (masks : List ℕ) (process : ℕ) → AreMasks members masks → place_by masks process ≡ None → (k : ℕ) → has (slice_index masks k) process ≡ false
+in_no_mask : (members : ℕ) (masks : List ℕ) (process : ℕ) → AreMasks members masks → place_by masks process ≡ None → (k : ℕ) → has (slice_index masks k) process ≡ false
 in_no_mask members masks process are none k =
     elim (cases_lt k (length masks)) [
       | inl below ↦
@@ -238,7 +252,7 @@ masks_with_nobody members masks are = record {
   disjoint = λ i j p ne there. has-nobody masks j p ∙ are.disjoint i j p ne (sym (has-nobody masks i p) ∙ there);
 }
 
-pub place_by-nobody : (members : ℕ) (masks : List ℕ) (process : ℕ) → AreMasks members masks → place_by (masks ++ 0 ∷ []) process ≡ place_by masks process
+place_by-nobody : (members : ℕ) (masks : List ℕ) (process : ℕ) → AreMasks members masks → place_by (masks ++ 0 ∷ []) process ≡ place_by masks process
 unfolding place_by
 place_by-nobody members masks process are =
     let long = length-append masks (0 ∷ []) in
@@ -255,27 +269,6 @@ pub votes_by-nobody : (members : ℕ) (masks : List ℕ) → AreMasks members ma
 unfolding votes_by
 votes_by-nobody members masks are = map-same (place_by (masks ++ 0 ∷ [])) (place_by masks) (λ p. place_by-nobody members masks p are) (range_with_len 0 members)
 
-pub union_with_nobody : (members voted : ℕ) (masks : List ℕ) → AreMasks members masks → IsUnion voted masks → IsUnion voted (masks ++ 0 ∷ [])
-union_with_nobody members voted masks are union = λ p. union p ∙ ap is_some (sym (place_by-nobody members masks p are))
-
--- ---- a vote in a mask
-
-pub union_with_one_more : (members voted : ℕ) (masks : List ℕ) (k process : ℕ) → AreMasks members masks → k < length masks → process < members → ((j : ℕ) → has (slice_index masks j) process ≡ false) → IsUnion voted masks → IsUnion (with_process voted process) (slice_set masks k (with_process (slice_index masks k) process))
-unfolding more
-union_with_one_more members voted masks k process are below small out union = λ p.
-    elim (cases_eq p process) [
-      | inl e ↦
-          (let P : ℕ → Type 0 = λ x. has (with_process voted process) x ≡ is_some (place_by (slice_set masks k (with_process (slice_index masks k) process)) x) in
-          let long = length-set masks k (with_process (slice_index masks k) process) in
-          subst P (sym e)
-          (has-with_same voted process
-          ∙ ap is_some (sym (place_is members (slice_set masks k (with_process (slice_index masks k) process)) k process (masks_with_one_more members masks k process are below small out) (omega arith)
-          (ap (λ m. has m process) (more_here members masks k process are below small out) ∙ has-with_same (slice_index masks k) process)))))
-      | inr ne ↦
-          has-with_other voted process p ne ∙ union p
-          ∙ ap is_some (sym (place_by-same masks (slice_set masks k (with_process (slice_index masks k) process)) p (length-set masks k (with_process (slice_index masks k) process)) (λ j. has-more_other members masks k process are below small out j p ne)))
-    ]
-
 -- ---- before any vote
 
 place_by-none : (process : ℕ) → place_by [] process ≡ None
@@ -289,31 +282,14 @@ votes_by-none members =
     sym (fill_by_all (place_by []) (replicate members none) members none (length-replicate members none)
     (λ k below. get_or-replicate members k none none below ∙ sym (place_by-none k)))
 
-pub AreVotes-none : (members : ℕ) → AreVotes members [] 0
-AreVotes-none members = record {
-  are = record { below = λ k. pow_pos members; disjoint = λ i j p ne there. has-none p };
-  below = pow_pos members;
-  union = λ p. has-none p ∙ ap is_some (sym (place_by-none p));
-}
+pub AreMasks-none : (members : ℕ) → AreMasks members []
+AreMasks-none members = record { below = λ k. pow_pos members; disjoint = λ i j p ne there. has-none p }
 
--- ---- the votes of one kind
+-- ---- a vote of a process that hasn't voted
 
-pub AreVotes-nobody : (members : ℕ) (masks : List ℕ) (voted : ℕ) → AreVotes members masks voted → AreVotes members (masks ++ 0 ∷ []) voted
-AreVotes-nobody members masks voted votes = record {
-  are = masks_with_nobody members masks votes.are;
-  below = votes.below;
-  union = union_with_nobody members voted masks votes.are votes.union;
-}
+module _ (members : ℕ) (masks : List ℕ) (k process : ℕ) (are : AreMasks members masks) (below : k < length masks) (small : process < members) (none : place_by masks process ≡ None) where
+  pub AreMasks-one : AreMasks members (slice_set masks k (with_process (slice_index masks k) process))
+  AreMasks-one = (one_vote_more members masks k process are below small (in_no_mask members masks process are none)).0
 
-pub AreVotes-one : (members : ℕ) (masks : List ℕ) (voted k process : ℕ) → AreVotes members masks voted → k < length masks → process < members → place_by masks process ≡ None → AreVotes members (slice_set masks k (with_process (slice_index masks k) process)) (with_process voted process)
-AreVotes-one members masks voted k process votes below small none =
-    let out = in_no_mask members masks process votes.are none in
-    record {
-      are = (one_vote_more members masks k process votes.are below small out).0;
-      below = with-lt members voted process votes.below small;
-      union = union_with_one_more members voted masks k process votes.are below small out votes.union;
-    }
-
-pub votes_by-one : (members : ℕ) (masks : List ℕ) (voted k process : ℕ) → AreVotes members masks voted → k < length masks → process < members → place_by masks process ≡ None → votes_by members (slice_set masks k (with_process (slice_index masks k) process)) ≡ slice_set (votes_by members masks) process (Some k)
-votes_by-one members masks voted k process votes below small none =
-    (one_vote_more members masks k process votes.are below small (in_no_mask members masks process votes.are none)).1
+  pub votes_by-one : votes_by members (slice_set masks k (with_process (slice_index masks k) process)) ≡ slice_set (votes_by members masks) process (Some k)
+  votes_by-one = (one_vote_more members masks k process are below small (in_no_mask members masks process are none)).1

@@ -1,12 +1,13 @@
 -- Sets of processes as bits of a number, and votes as one mask for each value.
 use Rattle.std.specs.Prelude.{◌≡◌, ◌≢◌, ℕ, ◌+◌, ◌*◌, ◌<◌, ◌≤◌, ◌^◌, Bool, true, false, ◌==◌, bit_or}
-use Rattle.std.specs.Prelude.{List, length, map, slice_index, slice_index_or, slice_set, Option}
-use Rattle.std.specs.Prelude.{Some, None, is_some}
+use Rattle.std.specs.Prelude.{◌⊎◌, List, [], ◌∷◌, ◌++◌, length, map, slice_index, Option, is_some}
+use Rattle.std.specs.Prelude.{if◌then◌else◌}
 use Rattle.std.specs.Int.{bit_at}
 use Rattle.std.specs.List.{count_by, find, range_with_len}
 use Rattle.pay_echo.specs.Broadcast.{Group, Vote, Send, Echo, Ready}
-use Rattle.pay_echo.specs.Plain.{AreDistinct, AreVotePlaces}
-use Rattle.pay_echo.specs.declared.tally.Candidate.{Candidate}
+use Rattle.pay_echo.specs.Meaning.{Meaning}
+use Rattle.pay_echo.specs.Plain.{meaning_by, AreVotePlaces}
+use Rattle.pay_echo.specs.declared.candidate.Candidate.{Candidate}
 use Rattle.pay_echo.specs.declared.instance.VoteKind.{VoteKind}
 use Rattle.pay_echo.specs.declared.instance.VoteKind.TheVariants as kind
 
@@ -34,16 +35,6 @@ pub record AreMasks (members : ℕ) (masks : List ℕ) : Type 0 where
       (j k process : ℕ) → j ≢ k → has (slice_index masks j) process ≡ true
       → has (slice_index masks k) process ≡ false
 
--- The mask of all processes that voted: those that are in one of the masks.
-abbrev pub IsUnion : ℕ → List ℕ → Type 0
-IsUnion voted masks = (process : ℕ) → has voted process ≡ is_some (place_by masks process)
-
--- The masks of one kind of votes, and the mask of all processes with a vote of this kind.
-pub record AreVotes (members : ℕ) (masks : List ℕ) (voted : ℕ) : Type 0 where
-  pub are : AreMasks members masks
-  pub below : voted < 2 ^ members
-  pub union : IsUnion voted masks
-
 -- ---- values, each with a mask of either kind
 
 abbrev pub mask_of : VoteKind → Candidate → ℕ
@@ -54,51 +45,43 @@ abbrev pub values_of : List Candidate → List (List ℕ)
 values_of candidates = map (λ c. c.value) candidates
 
 abbrev pub masks_of : VoteKind → List Candidate → List ℕ
-masks_of kind candidates = map (mask_of kind) candidates
+masks_of of candidates = map (mask_of of) candidates
 
--- What candidates show: the values, and for each process the places of those that it voted for.
-pub record TallyFields : Type 0 where
-  pub values : List (List ℕ)
-  pub echoes : List (Option ℕ)
-  pub readys : List (Option ℕ)
+-- for each member the place of the value that it voted for
+abbrev pub votes_of : ℕ → VoteKind → List Candidate → List (Option ℕ)
+votes_of members of candidates = votes_by members (masks_of of candidates)
 
-abbrev pub vote_places : VoteKind → TallyFields → List (Option ℕ)
-vote_places kind.Echo t = t.echoes
-vote_places kind.Ready t = t.readys
+-- with a vote for this value; a SEND makes the process itself echo it
+abbrev pub with_vote_for : ℕ → Vote → Candidate → Candidate
+with_vote_for own (Send v) c = record c { echoes = with_process c.echoes own }
+with_vote_for own (Echo p v) c = record c { echoes = with_process c.echoes p }
+with_vote_for own (Ready p v) c = record c { readys = with_process c.readys p }
 
--- with a process's vote for the value at a place
-abbrev pub with_place : VoteKind → ℕ → ℕ → TallyFields → TallyFields
-with_place kind.Echo process place t =
-    record t { echoes = slice_set t.echoes process (Some place) }
-with_place kind.Ready process place t =
-    record t { readys = slice_set t.readys process (Some place) }
+-- with process p's READY if it is due
+abbrev pub with_ready_if : Bool → ℕ → Candidate → Candidate
+with_ready_if due p c = if due then record c { readys = with_process c.readys p } else c
 
-abbrev pub tally_by : ℕ → List Candidate → TallyFields
-tally_by members candidates =
-    record {
-      values = values_of candidates;
-      echoes = votes_by members (masks_of kind.Echo candidates);
-      readys = votes_by members (masks_of kind.Ready candidates);
-    }
-
--- The values differ. Of either kind no process is in the masks of two values, and the mask of all
--- voters is the union of the others. All fit 128 bits.
-pub record IsTally (members : ℕ) (candidates : List Candidate) (echoed readied : ℕ) : Type 0 where
-  pub few : members ≤ 128
-  pub distinct : AreDistinct (values_of candidates)
-  pub echoes : AreVotes members (masks_of kind.Echo candidates) echoed
-  pub readys : AreVotes members (masks_of kind.Ready candidates) readied
+-- the same values, or one more at the end that nobody voted for
+abbrev pub IsGrown : List Candidate → List Candidate → Type 0
+IsGrown before after =
+    (after ≡ before)
+    ⊎ ((v : List ℕ) × (after ≡ before ++ record { value = v; echoes = 0; readys = 0 } ∷ []))
 
 -- ---- an instance kept by masks
 
--- the place of what stands in this vote's place
-abbrev pub place_before : ℕ → Vote → TallyFields → Option ℕ
-place_before own (Send v) t = slice_index_or t.echoes own None
-place_before own (Echo p v) t = slice_index_or t.echoes p None
-place_before own (Ready p v) t = slice_index_or t.readys p None
+abbrev pub meaning_by_masks : Group → List Candidate → Option ℕ → Meaning
+meaning_by_masks g candidates delivered =
+    meaning_by g (values_of candidates) (votes_of g.members kind.Echo candidates)
+    (votes_of g.members kind.Ready candidates) delivered
 
--- Each value has a vote, so there are at most two values for each member.
-pub record IsTallied (g : Group) (t : TallyFields) (delivered : Option ℕ) : Type 0 where
-  pub are : AreVotePlaces g t.values t.echoes t.readys delivered
-  pub voted : length t.values ≤ count_by is_some t.echoes + count_by is_some t.readys
-  pub few : length t.values ≤ 2 * g.members
+-- Of either kind no process is in the masks of two values. Each value has a vote, so there are at
+-- most two values for each member.
+pub record IsTallied (g : Group) (candidates : List Candidate) (delivered : Option ℕ) : Type 0 where
+  pub are :
+      AreVotePlaces g (values_of candidates) (votes_of g.members kind.Echo candidates)
+      (votes_of g.members kind.Ready candidates) delivered
+  pub masks : (of : VoteKind) → AreMasks g.members (masks_of of candidates)
+  pub voted :
+      length candidates ≤ count_by is_some (votes_of g.members kind.Echo candidates)
+      + count_by is_some (votes_of g.members kind.Ready candidates)
+  pub few : length candidates ≤ 2 * g.members

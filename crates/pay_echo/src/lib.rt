@@ -13,11 +13,11 @@
 //! ```
 #![tactic(auto)]
 
+mod candidate;
 mod instance;
 pub mod laws;
 mod mask;
 mod plain;
-mod tally;
 
 pub use instance::{Group, Instance, Moves, VoteRef};
 pub use mask::MaskInstance;

@@ -1,19 +1,16 @@
-ghost use Rattle.std.specs.Prelude.{◌≡◌, ◌≤◌, ◌<◌, ◌+◌, ◌++◌, ℕ, List, Bool, Some, None, length};
-ghost use Rattle.std.specs.Prelude.{slice_get, slice_index_or, IfOk, OnOk, OnErr, is_some, is_none};
-ghost use Rattle.std.specs.Prelude.{true, false};
+ghost use Rattle.std.specs.Prelude.{◌≡◌, ◌≤◌, ◌+◌, is_some, true, false, OnOk, OnErr};
 ghost use Rattle.std.specs.List.{count_by};
 ghost use Rattle.pay_echo.specs.Broadcast.{IsForeign, is_for};
-ghost use Rattle.pay_echo.specs.Masks.{place_before};
 ghost use Rattle.pay_echo.specs.Step.{vote_before, echo_count, ready_count, moves_by, can_ready};
-ghost use Rattle.pay_echo.specs.Step.{can_deliver, put_echo, put_ready, put_if, with_moves};
-ghost use Rattle.pay_echo.specs.Step.{IsPlaced};
+ghost use Rattle.pay_echo.specs.Step.{can_deliver, with_moves, IsPlaced};
 ghost use Rattle.pay_echo.specs.Votes.{vote_of_ref};
 
+use crate::candidate::{Candidate, keep, place_of, vote_at};
 use crate::instance::{Group, Instance, Moves, VoteKind, VoteRef};
-use crate::tally::Tally;
 use pay_frame::MOST_MEMBERS;
 use std::alloc::{AllocError, Global};
 use std::marker::Model;
+use std::mem::size_of;
 
 /// An instance kept as a short list of values. Each value has a mask of the processes that sent
 /// ECHO for it, and a mask of those that sent READY. A count of votes is a count of bits.
@@ -23,33 +20,35 @@ use std::marker::Model;
 #[derive(Drop)]
 pub struct MaskInstance {
     group: Group,
-    // the votes; this process's own votes are what it echoed and readied
-    tally: Tally,
-    // the place of the delivered value
-    delivered: Option<usize>,
+    // the place of the delivered value; the invariant has at most two values for each member
+    delivered: Option<u16>,
+    // the values with their votes; this process's own votes are what it echoed and readied
+    candidates: Vec<Candidate>,
 }
+
+const _: () = prove!(size_of::<MaskInstance>() == 40);
 
 impl Model for MaskInstance {
     ghost use Rattle.pay_echo.specs.Meaning.{Meaning};
-    ghost use Rattle.pay_echo.specs.Plain.{meaning_by};
-    ghost use Rattle.pay_echo.specs.Masks.{IsTallied};
+    ghost use Rattle.pay_echo.specs.Masks.{meaning_by_masks, IsTallied};
 
     ghost Value = { Meaning };
 
-    ghost view = { λ i.
-        meaning_by i.group i.tally.values i.tally.echoes i.tally.readys i.delivered };
+    ghost view = { λ i. meaning_by_masks i.group i.candidates.items i.delivered };
 
-    ghost invariant = { λ i. IsTallied i.group i.tally i.delivered };
+    ghost invariant = { λ i. IsTallied i.group i.candidates.items i.delivered };
 }
 
 impl Instance for MaskInstance {
     ghost meaning = { λ i. i };
 
+    // It has room for one value, since most often all processes vote for one value.
+    #[tactic(auto, using(crate::proofs::MaskLemmas::none_known))]
     fn fresh(alloc: Global, group: Group) -> Result<MaskInstance, AllocError> {
         Ok(MaskInstance {
             group,
-            tally: Tally::new(alloc, group.members)?,
             delivered: None,
+            candidates: Vec::with_capacity(alloc, 1)?,
         })
     }
 
@@ -73,17 +72,16 @@ impl Instance for MaskInstance {
     }
 
     fn echoed(&self) -> Option<&[u8]> {
-        self.tally
-            .value(self.tally.place(VoteKind::Echo, self.group.own))
+        vote_at(&self.candidates, VoteKind::Echo, self.group.own)
     }
 
     fn readied(&self) -> Option<&[u8]> {
-        self.tally
-            .value(self.tally.place(VoteKind::Ready, self.group.own))
+        vote_at(&self.candidates, VoteKind::Ready, self.group.own)
     }
 
     fn delivered(&self) -> Option<&[u8]> {
-        self.tally.value(self.delivered)
+        let place = usize::from(self.delivered?);
+        Some(self.candidates[place].value.as_slice())
     }
 }
 
@@ -95,9 +93,13 @@ impl MaskInstance {
         ensures placed { IsPlaced self.now }
     {
         match vote {
-            VoteRef::Send(_) => self.tally.has_voted(VoteKind::Echo, self.group.own),
-            VoteRef::Echo(process, _) => self.tally.has_voted(VoteKind::Echo, process),
-            VoteRef::Ready(process, _) => self.tally.has_voted(VoteKind::Ready, process),
+            VoteRef::Send(_) => self.echoed().is_some(),
+            VoteRef::Echo(process, _) => {
+                vote_at(&self.candidates, VoteKind::Echo, process).is_some()
+            }
+            VoteRef::Ready(process, _) => {
+                vote_at(&self.candidates, VoteKind::Ready, process).is_some()
+            }
         }
     }
 
@@ -105,7 +107,7 @@ impl MaskInstance {
     fn has_readied(&self) -> bool
         ensures { result ≡ is_some self.now.readied }
     {
-        self.tally.has_voted(VoteKind::Ready, self.group.own)
+        self.readied().is_some()
     }
 
     // Returns whether a value is delivered.
@@ -122,10 +124,10 @@ impl MaskInstance {
         ensures few_echoes { result.echoes ≤ MOST_MEMBERS }
         ensures few_readys { result.readys ≤ MOST_MEMBERS }
     {
-        match self.tally.place_of(value) {
+        match place_of(&self.candidates, value) {
             Some(place) => Counts {
-                echoes: self.tally.count(VoteKind::Echo, place),
-                readys: self.tally.count(VoteKind::Ready, place),
+                echoes: self.candidates[place].echoes.count_ones(),
+                readys: self.candidates[place].readys.count_ones(),
             },
             None => Counts {
                 echoes: 0,
@@ -210,11 +212,11 @@ impl MaskInstance {
         ensures group { self.new.group ≡ self.old.group }
         ensures err { OnErr result (self.new ≡ self.old) }
     {
-        let group = self.group;
-        let place = self.tally.keep(alloc, vote.value())?;
-        put(&mut self.tally, group, vote, place);
-        put_ready_if(ready, &mut self.tally, group.own, place);
-        self.delivered = deliver.then_some(place).or(self.delivered);
+        let place = keep(&mut self.candidates, alloc, vote.value())?;
+        let candidate = &mut self.candidates[place];
+        candidate.add(self.group, vote);
+        candidate.add_ready_if(ready, self.group.own);
+        self.delivered = deliver.then_some(place as u16).or(self.delivered);
         Ok(())
     }
 }
@@ -224,38 +226,4 @@ impl MaskInstance {
 struct Counts {
     echoes: u32,
     readys: u32,
-}
-
-// Adds a vote for the value at `place`.
-fn put(tally: &mut Tally, group: Group, vote: VoteRef, place: usize)
-    requires own { group.own < group.members }
-    requires foreign { IsForeign group (vote_of_ref vote) }
-    requires echoes { length tally.old.echoes ≡ group.members }
-    requires readys { length tally.old.readys ≡ group.members }
-    requires first { place_before group.own (vote_of_ref vote) tally.old ≡ None }
-    requires place { place < length tally.old.values }
-    ensures values { tally.new.values ≡ tally.old.values }
-    ensures echoes { tally.new.echoes
-        ≡ put_echo group.own (vote_of_ref vote.entry) place tally.old.echoes }
-    ensures readys { tally.new.readys ≡ put_ready (vote_of_ref vote.entry) place tally.old.readys }
-{
-    match vote {
-        VoteRef::Send(_) => tally.vote(VoteKind::Echo, group.own, place),
-        VoteRef::Echo(process, _) => tally.vote(VoteKind::Echo, process, place),
-        VoteRef::Ready(process, _) => tally.vote(VoteKind::Ready, process, place),
-    }
-}
-
-// Adds the READY of `process` for the value at `place` if it is `due`.
-fn put_ready_if(due: bool, tally: &mut Tally, process: u16, place: usize)
-    requires process { process < length tally.old.readys }
-    requires first { due ≡ true → slice_index_or tally.old.readys process None ≡ None }
-    requires place { place < length tally.old.values }
-    ensures values { tally.new.values ≡ tally.old.values }
-    ensures echoes { tally.new.echoes ≡ tally.old.echoes }
-    ensures readys { tally.new.readys ≡ put_if due process place tally.old.readys }
-{
-    if due {
-        tally.vote(VoteKind::Ready, process, place);
-    }
 }
