@@ -195,7 +195,7 @@ fn value_of(alloc: Global, text: &str) -> Result<Option<Bytes>, AllocError>
             if bytes.len() > usize::from(GREATEST_VALUE) {
                 return Ok(None);
             }
-            Ok(Some(Bytes::new(bytes)))
+            Ok(Some(Bytes::new(alloc, bytes)?))
         }
         Err(FromHexError::OutOfMemory) => Err(AllocError),
         Err(_) => Ok(None),

@@ -25,7 +25,7 @@ pub fn note_value(alloc: Global, text: &[u8]) -> Result<Bytes, AllocError>
     let mut value = Vec::new(alloc);
     value.push(NOTE_VERSION)?;
     value.extend_from_slice(text)?;
-    Ok(Bytes::new(value))
+    Bytes::new(alloc, value)
 }
 
 /// Returns the text of a note, if `value` is a note.

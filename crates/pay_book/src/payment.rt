@@ -149,7 +149,8 @@ pub fn payment_value(payee: u16, amount: u64) -> [u8; PAYMENT_LENGTH]
     [PAYMENT_VERSION, high, low, a, b, c, d, e, f, g, h]
 }
 
-/// Returns the value of several `payments`, in their order. It allocates all its memory at once.
+/// Returns the value of several `payments`, in their order. It reserves room for all its
+/// bytes at once.
 #[tactic(auto, unfolding(crate::specs::Payment::payments_value))]
 // promise: payments
 pub fn payments_value(alloc: Global, payments: &[Payment]) -> Result<Bytes, AllocError>
@@ -165,7 +166,7 @@ pub fn payments_value(alloc: Global, payments: &[Payment]) -> Result<Bytes, Allo
     for payment in payments {
         value.extend_from_slice(&pair_bytes(*payment))?;
     }
-    Ok(Bytes::new(value))
+    Bytes::new(alloc, value)
 }
 
 /// Returns the bytes of `payment`, one of several.

@@ -264,7 +264,7 @@ fn rest_of_line(alloc: Global, words: &mut Words) -> Result<Option<Bytes>, Alloc
         rest.push(b' ')?;
         rest.extend_from_slice(word)?;
     }
-    Ok(Some(Bytes::new(rest)))
+    Ok(Some(Bytes::new(alloc, rest)?))
 }
 
 fn is_word(word: &[u8], name: &str) -> bool

@@ -110,7 +110,7 @@ impl<T: Teller> Desk<T> {
         ensures err { OnErr result (self.new ≡ self.old) }
     {
         let value = order.payments.value(alloc)?;
-        if let Some(kept) = self.kept.find(alloc, order.id) {
+        if let Some(kept) = self.kept.find(order.id) {
             return kept_text(alloc, kept, order.id, &value);
         }
         match value_or_fault(self.accounts, self.own, &order.payments, value) {
@@ -128,7 +128,7 @@ impl<T: Teller> Desk<T> {
         ensures err { OnErr result (self.new ≡ self.old) }
     {
         let value = note_value(alloc, text.as_slice())?;
-        match self.kept.find(alloc, id) {
+        match self.kept.find(id) {
             Some(kept) => kept_text(alloc, kept, id, &Some(value)),
             None => self.ask(alloc, id, value),
         }

@@ -24,13 +24,13 @@ pub(crate) struct ById {
 
 impl ById {
     /// Returns a value that equals all that is kept under this `id`.
-    pub(crate) fn of_id(alloc: Global, id: u64) -> ById
+    pub(crate) fn of_id(id: u64) -> ById
         ensures { result.kept.id ≡ id }
     {
         ById {
             kept: Kept {
                 id,
-                value: Bytes::new(Vec::new(alloc)),
+                value: Bytes::empty(),
                 seq: 0,
             },
         }
@@ -104,10 +104,10 @@ impl KeptValues {
 
     /// Returns what is kept under `id`.
     // promise: asked once
-    pub fn find(&self, alloc: Global, id: u64) -> Option<&Kept>
+    pub fn find(&self, id: u64) -> Option<&Kept>
         ensures { option_copied result ≡ kept_under id self.now }
     {
-        let value = self.values.get(&ById::of_id(alloc, id))?;
+        let value = self.values.get(&ById::of_id(id))?;
         Some(&value.kept)
     }
 

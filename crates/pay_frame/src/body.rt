@@ -1,11 +1,11 @@
 //! What a frame says: its kind, owner, seq and value.
 
-ghost use Rattle.std.specs.Prelude.{◌≡◌, ◌↔◌, [], length, IfOk, IsTrue};
+ghost use Rattle.std.specs.Prelude.{◌≡◌, ◌↔◌, ◌≤◌, [], length, IfOk, IsTrue};
 ghost use Rattle.pay_frame.specs.Frame.{IsBody, body_of_parts};
 
-use smallvec::SmallVec;
 use std::alloc::{AllocError, Global};
 use std::marker::Model;
+use std::mem::size_of;
 use std::sync::Arc;
 
 /// What a frame is for.
@@ -32,56 +32,100 @@ impl Kind {
     }
 }
 
-/// A list of bytes. Up to 16 bytes, such as a value of one payment, are stored without an
+/// The most bytes that are stored without an allocation.
+const MOST_SHORT: usize = 14;
+
+/// How bytes are stored. With the variant's tag it has 16 bytes.
+#[derive(Debug, Drop)]
+enum Layout {
+    /// The first `len` of these bytes.
+    Short { len: u8, bytes: [u8; MOST_SHORT] },
+    /// All bytes of the vector.
+    Long(Box<Vec<u8>>),
+}
+
+/// A list of bytes. Up to 14 bytes, such as a value of one payment, are stored without an
 /// allocation. Contracts see the list of numbers.
 #[derive(Debug, Drop)]
 pub struct Bytes {
-    bytes: SmallVec<u8, 16>,
+    layout: Layout,
 }
 
 impl Model for Bytes {
     ghost use Rattle.std.specs.Prelude.{ℕ, List};
+    ghost use Rattle.pay_frame.specs.Layout.{bytes_in, IsShortEnough};
 
     ghost Value = { List ℕ };
 
-    ghost view = { λ b. b.bytes.items };
+    ghost view = { λ b. bytes_in b.layout };
+
+    ghost invariant = { λ b. IsShortEnough b.layout };
 }
 
 impl Bytes {
-    /// Takes over the vector `bytes` without copying it.
-    pub fn new(bytes: Vec<u8>) -> Bytes
-        ensures value { result ≡ bytes.items }
+    /// Takes over the vector `bytes`. If they are more than 14, they aren't copied.
+    pub fn new(alloc: Global, bytes: Vec<u8>) -> Result<Bytes, AllocError>
+        ensures value { IfOk result (λ made. made ≡ bytes.items) }
     {
-        Bytes {
-            bytes: SmallVec::from_vec(bytes),
+        if bytes.len() <= MOST_SHORT {
+            return Ok(Bytes::short(bytes.as_slice()));
         }
+        Ok(Bytes {
+            layout: Layout::Long(Box::new(alloc, bytes)?),
+        })
     }
 
     /// Returns a copy of the slice `bytes`.
     pub fn from_slice(alloc: Global, bytes: &[u8]) -> Result<Bytes, AllocError>
         ensures value { IfOk result (λ copy. copy ≡ bytes.now) }
     {
-        Ok(Bytes {
-            bytes: SmallVec::from_slice(alloc, bytes)?,
-        })
+        if bytes.len() <= MOST_SHORT {
+            return Ok(Bytes::short(bytes));
+        }
+        Bytes::new(alloc, Vec::from_slice(alloc, bytes)?)
+    }
+
+    /// Returns no bytes, without an allocation.
+    pub fn empty() -> Bytes
+        ensures value { result ≡ [] }
+    {
+        Bytes::short(&[])
+    }
+
+    /// Returns a copy of the slice `bytes`, without an allocation.
+    fn short(bytes: &[u8]) -> Bytes
+        requires { length bytes.now ≤ MOST_SHORT }
+        ensures { result ≡ bytes.now }
+    {
+        let mut short = [0; MOST_SHORT];
+        short[..bytes.len()].copy_from_slice(bytes);
+        Bytes {
+            layout: Layout::Short {
+                len: bytes.len() as u8,
+                bytes: short,
+            },
+        }
     }
 
     pub fn as_slice(&self) -> &[u8]
         ensures value { result.now ≡ self.now }
     {
-        self.bytes.as_slice()
+        match &self.layout {
+            Layout::Short { len, bytes } => &bytes[..usize::from(*len)],
+            Layout::Long(bytes) => bytes.as_slice(),
+        }
     }
 
     pub fn len(&self) -> usize
         ensures value { result ≡ length self.now }
     {
-        self.bytes.len()
+        self.as_slice().len()
     }
 
     pub fn is_empty(&self) -> bool
         ensures value { IsTrue result ↔ (self.now ≡ []) }
     {
-        self.bytes.is_empty()
+        self.as_slice().is_empty()
     }
 
     /// Returns a clone of the bytes.
@@ -91,6 +135,8 @@ impl Bytes {
         Bytes::from_slice(alloc, self.as_slice())
     }
 }
+
+const _: () = prove!(size_of::<Bytes>() == 16);
 
 /// A frame's message without its addresses: its kind, the broadcast that it belongs to (owner and
 /// sequence number) and a value.

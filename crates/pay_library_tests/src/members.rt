@@ -235,8 +235,8 @@ fn try_ask(alloc: Global, member: &mut Tried, value: Bytes, again: Bytes) -> Res
 
 /// Submits `value`, which is in hexadecimal, and returns its number.
 fn asked_for(alloc: Global, member: &mut Tried, value: &str) -> Result<u32, Fail> {
-    let again = Bytes::new(hex::decode(alloc, value)?);
-    let value = Bytes::new(hex::decode(alloc, value)?);
+    let again = Bytes::new(alloc, hex::decode(alloc, value)?)?;
+    let value = Bytes::new(alloc, hex::decode(alloc, value)?)?;
     Ok(try_ask(alloc, member, value, again)?)
 }
 

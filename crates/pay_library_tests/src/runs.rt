@@ -93,7 +93,7 @@ fn event_of(alloc: Global, action: &Action) -> Result<WorldEvent, Fail> {
 }
 
 fn bytes_of(alloc: Global, text: &str) -> Result<Bytes, Fail> {
-    Ok(Bytes::new(hex::decode(alloc, text)?))
+    Ok(Bytes::new(alloc, hex::decode(alloc, text)?)?)
 }
 
 // Puts a row's events on a list.

@@ -1,7 +1,7 @@
 //! The keys of a member, one for each peer and shared with that peer alone, and how their file is
 //! read. Test keys, which anyone can name, are here too.
 
-ghost use Rattle.std.specs.Prelude.{◌≡◌, IfOk, ◌<◌, ◌≤◌, ◌↔◌, ◌⊎◌, [], IsOkUnless, IsTrue};
+ghost use Rattle.std.specs.Prelude.{◌≡◌, IfOk, ◌<◌, ◌≤◌, ◌↔◌, ◌⊎◌, IsOkUnless, IsTrue};
 ghost use Rattle.std.specs.Prelude.{MatchOption, length, map, IsSome};
 ghost use Rattle.std.specs.List.{AllPass};
 ghost use Rattle.std.specs.Option.{option_map_or};
@@ -17,7 +17,7 @@ ghost use Rattle.pay_link.specs.Hexadecimal as hexadecimal;
 use crate::genesis::Genesis;
 use crate::json::{number_at, texts_at, value_in};
 use hex::FromHex;
-use pay_frame::{Bytes, MOST_MEMBERS};
+use pay_frame::MOST_MEMBERS;
 use pay_hmac::PreparedHmac;
 use std::alloc::{AllocError, Global};
 use std::fmt;
@@ -306,13 +306,6 @@ impl Keys {
         ensures { IfOk result (λ key. key ≡ key_for self.now peer) }
     {
         self.keys[usize::from(peer)].copy()
-    }
-
-    /// Returns empty bytes, without an allocation.
-    pub(crate) fn no_bytes(&self) -> Bytes
-        ensures { result ≡ [] }
-    {
-        Bytes::new(Vec::new(*self.keys.allocator()))
     }
 
     /// Returns whether `other` belongs to the same member and has equal keys.

@@ -9,7 +9,7 @@ ghost use Rattle.pay_link.specs.Sealing.{sealed_frame, tagged_bytes, want_frame}
 use crate::checked::{Checked, CheckedParts};
 use crate::keys::Keys;
 use crate::limits::WANT_LEN;
-use pay_frame::{Body, HEAD_LEN, Kind, TAG_LEN, head_into, write};
+use pay_frame::{Body, Bytes, HEAD_LEN, Kind, TAG_LEN, head_into, write};
 use pay_hmac::Tagger;
 use pay_hmac::laws::tag_length;
 use std::alloc::{AllocError, Global};
@@ -71,7 +71,7 @@ pub fn want<T: Tagger>(t: &T, keys: &Keys, to: u16, number: u64) -> [u8; WANT_LE
     ensures bytes { result ≡ frame_bytes (want_frame keys.now to number) }
     ensures frame { IsFrame (want_frame keys.now to number) }
 {
-    let body = Body::new(Kind::Want, 0, 0, keys.no_bytes());
+    let body = Body::new(Kind::Want, 0, 0, Bytes::empty());
     let mut head = [0; HEAD_LEN];
     head_into(&mut head, keys.own(), to, number, &body);
     let tag = tag_for(t, keys, to, number, &body);

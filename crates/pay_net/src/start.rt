@@ -216,7 +216,7 @@ fn keep_next(
     let Ok(seq) = u32::try_from(place) else {
         return Err(StartFault::Ids);
     };
-    if kept.find(alloc, *id).is_some() {
+    if kept.find(*id).is_some() {
         return Err(StartFault::Ids);
     }
     let value = value.copy(alloc)?;

@@ -231,13 +231,13 @@ fn next_bytes(alloc: Global, words: &mut Words) -> Result<Option<Bytes>, AllocEr
         return Ok(None);
     };
     if is_word(word, "-") {
-        return Ok(Some(Bytes::new(Vec::new(alloc))));
+        return Ok(Some(Bytes::empty()));
     }
     if word.is_empty() {
         return Ok(None);
     }
     match decode(alloc, word) {
-        Ok(bytes) => Ok(Some(Bytes::new(bytes))),
+        Ok(bytes) => Ok(Some(Bytes::new(alloc, bytes)?)),
         Err(FromHexError::OutOfMemory) => Err(AllocError),
         Err(_) => Ok(None),
     }

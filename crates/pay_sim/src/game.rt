@@ -358,7 +358,7 @@ impl<I: Instance + Drop, B: Settle + Drop> Game<I, B> {
     {
         match self.world.member(to) {
             Some(_) => self.frame_sent(alloc, from, to, number),
-            None => Ok(Some(Bytes::new(Vec::new(alloc)))),
+            None => Ok(Some(Bytes::empty())),
         }
     }
 

@@ -73,7 +73,7 @@ pub(crate) fn test_frame<T: Tagger>(
     ensures { IfOk result (λ bytes. bytes ≡ test_frame from to number body.now) }
 {
     let tag = test_tag(tagger, from, to, number, body);
-    Ok(Bytes::new(write(alloc, from, to, number, body, &tag)?))
+    Bytes::new(alloc, write(alloc, from, to, number, body, &tag)?)
 }
 
 fn test_tag<T: Tagger>(tagger: &T, from: u16, to: u16, number: u64, body: &Body) -> [u8; TAG_LEN]

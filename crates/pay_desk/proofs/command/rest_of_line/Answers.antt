@@ -27,5 +27,5 @@ loop-word-smaller c =
 
 pub returns : goal.returns
 returns c =
-    ap Some (c.new.ensures.value ∙ sym (no_word c.loop-word.words c.loop-word.rest.items c.in_default-next_word.ensures.word))
+    ap Some (c.in_ok-new.ensures.value ∙ sym (no_word c.loop-word.words c.loop-word.rest.items c.in_default-next_word.ensures.word))
     ∙ c.loop-word.invariant

@@ -13,7 +13,7 @@ returns-clause-seat g c =
           (subst (λ seat. SeatGrows c.args.peer seat w.read_ahead-ended.new.asking.seat) w.begin.ensures.seat
           (run_grows c.judgement_opens.ensures _ _ _ _ _ _ _ _ w.read_ahead-ended.ensures.fed))
       | else-eq w ↦ elim w.else-eq.branch [
-          | else-eq-via-then-eq+else-begin v ↦ same_grows _ _ _ (ap seat_of (w.asking-is ∙ v.asking-is) ∙ v.begin.ensures.seat)
-          | else-eq-via-else-eq v ↦ same_grows _ _ _ (ap seat_of (w.asking-is ∙ v.asking-is))
-        ]
+        | else-eq-via-then-eq+else-begin v ↦ same_grows _ _ _ (ap seat_of (w.asking-is ∙ v.asking-is) ∙ v.begin.ensures.seat)
+        | else-eq-via-else-eq v ↦ same_grows _ _ _ (ap seat_of (w.asking-is ∙ v.asking-is))
+      ]
     ]
