@@ -44,7 +44,7 @@ import threading
 from concurrent.futures import ThreadPoolExecutor, as_completed
 from dataclasses import dataclass
 
-from by_tests import try_by_tests
+from by_tests import read_trials, try_by_tests
 from coverage import faults_of_repository
 from edits import FOLDER, TOP, Mutant, in_batches, read_mutants, rt, rtlib
 from trial import try_itself
@@ -159,7 +159,7 @@ def try_all(tasks: list[Task], words: argparse.Namespace, jobs: int) -> int:
             if not task.left:
                 counts.append(task.report(words.said))
         counts += [print_faults(it.result()) for it in itself]
-    counts += [] if words.asked else [print_faults(faults_of_repository())]
+    counts += [] if words.asked else [print_faults([*faults_of_repository(), *read_trials([])[1]])]
     passed, failed = (sum(it) for it in zip(*counts))
     print(f"{passed} passed, {failed} failed")
     return 1 if failed else 0
@@ -171,7 +171,7 @@ def read_only(tasks: list[Task]) -> int:
         print(f"{task.crate.name}: {len(task.mutants)} mutants, {len(in_batches(task.mutants))} checks")
         for it in task.tally.outcomes:
             print(f"{task.crate.name}/{it.mutant}: {it.verdict}: {it.said}")
-    _, failed = print_faults(faults_of_repository())
+    _, failed = print_faults([*faults_of_repository(), *read_trials([])[1]])
     return 1 if failed or any(it.tally.outcomes for it in tasks) else 0
 
 
@@ -190,7 +190,7 @@ def read_words() -> argparse.Namespace:
 
 def main() -> int:
     words = read_words()
-    if words.by_tests:
+    if words.by_tests and not words.dry:
         return try_by_tests(words.asked)
     tasks = tasks_of({*words.asked}, words.above)
     if words.dry:

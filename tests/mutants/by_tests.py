@@ -44,15 +44,22 @@ def passes_in_copy(texts: dict[str, str], test: str) -> bool | None:
     return f"test {path} ... ok" in said if any(it.startswith("tests: ") for it in said) else None
 
 
-def try_by_tests(asked: list[str]) -> int:
-    """Tries those that are asked for, or all, and returns the status."""
-    passed, faults, trials = 0, [], {}
+def read_trials(asked: list[str]) -> tuple[dict[str, tuple[str, dict[str, str]]], list[str]]:
+    """Returns those that are asked for, or all, by name, and what is wrong with those that can't be read."""
+    faults, trials = [], {}
     names = sorted(it.removesuffix(".edit") for it in os.listdir(FOLDER))
     for name in (it for it in names if not asked or it in asked):
         try:
             trials[name] = read_trial(name)
         except (BadEdit, OSError, UnicodeDecodeError) as why:
             faults.append(f"{name}: BAD EDIT: {why}")
+    return trials, faults
+
+
+def try_by_tests(asked: list[str]) -> int:
+    """Tries those that are asked for, or all, and returns the status."""
+    trials, faults = read_trials(asked)
+    passed = 0
     failing = {it for it in sorted({test for test, _ in trials.values()}) if not passes_in_copy({}, it)}
     faults += [f"{it} fails without a mutant" for it in sorted(failing)]
     for name, (test, texts) in trials.items():
